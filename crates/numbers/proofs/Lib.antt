@@ -1,0 +1,5 @@
+pub mod Laws
+pub mod Bytes
+pub mod Forms
+pub mod Refused
+pub mod Examples

@@ -1,0 +1,58 @@
+-- Laws of ROOM, and of what a writer leaves.
+-- Assumes nothing.
+use mathlib.Core.Path.{_≡_, refl, sym, ap, _∙_}
+use mathlib.Core.List.{List, [], _∷_, _++_}
+use Prim.Native.Nat.{ℕ, suc, _+_, _≤_, _<_}
+use native.Mathlib.Nat.{add-zero}
+use native.Mathlib.Decide.{decLt}
+use native.Mathlib.Omega.{arith}
+use lib.ListN.{length, set}
+use lib.Seq.{sets}
+use borrow.Author.Tests.{le-leb, lt-leb}
+use Rattle.refusals.specs.declared.Fault.{Fault}
+use Rattle.refusals.specs.declared.Fault.the-variants.{Room}
+use Rattle.refusals.specs.declared.Answer.{Answer}
+use Rattle.refusals.specs.declared.Answer.the-variants.{Accepted, Refused}
+use Rattle.refusals.specs.Output.{roomAnswer, putAnswer, leaves}
+
+pub room-enough : (len at needed : ℕ) → at + needed ≤ len → roomAnswer len at needed ≡ Accepted needed
+unfolding roomAnswer
+room-enough len at needed h = rw (le-leb (at + needed) len h)
+
+pub room-short : (len at needed : ℕ) → len < at + needed → roomAnswer len at needed ≡ Refused Room needed
+unfolding roomAnswer
+room-short len at needed h = rw (lt-leb (at + needed) len h)
+
+-- What a writer of these bytes owes: its answer, and the output that it leaves.
+abbrev pub Put : List ℕ → ℕ → List ℕ → Answer → List ℕ → Type 0
+Put out at bytes answer left = (answer ≡ putAnswer out at bytes) × (left ≡ leaves answer out at bytes)
+
+-- A writer that asks for the room of its bytes, and stores them where that is accepted.
+module _ (out : List ℕ) (at : ℕ) (bytes : List ℕ) {k : ℕ} {answer : Answer} (len : k ≡ length bytes) (asked : answer ≡ roomAnswer (length out) at k) where
+  is-put : answer ≡ putAnswer out at bytes
+  is-put = asked ∙ ap (roomAnswer (length out) at) len
+
+  pub put-room : {p : ℕ} → answer ≡ Accepted p → at + length bytes ≤ length out
+  put-room {p} is = elim (decLt (length out) (at + length bytes)) [
+    | yes h ↦
+        let short = room-short (length out) at (length bytes) h in
+        let put = is-put in
+        let z : _≡_ {A = ℕ} 0 1 = cc in
+        absurd (omega arith)
+    | no h ↦ omega arith
+  ]
+
+  pub put-accepted : {p : ℕ} {left : List ℕ} → answer ≡ Accepted p → left ≡ sets out at bytes → Put out at bytes answer left
+  put-accepted is e = (is-put, rw is e)
+
+  pub put-refused : {f : Fault} {p : ℕ} → answer ≡ Refused f p → Put out at bytes answer out
+  put-refused is = (is-put, rw is)
+
+-- The output of a writer whose bytes are known to fit.
+pub put-fits : (out : List ℕ) (at : ℕ) (bytes : List ℕ) {answer : Answer} {left : List ℕ} → at + length bytes ≤ length out → Put out at bytes answer left → left ≡ sets out at bytes
+put-fits out at bytes {answer} h p = p .1 ∙ ap (λ (a : Answer). leaves a out at bytes) (p .0 ∙ room-enough (length out) at (length bytes) h)
+
+-- Two runs of stores, the second behind the first, are one.
+pub sets-append : (a b l : List ℕ) (i : ℕ) → sets l i (a ++ b) ≡ sets (sets l i a) (i + length a) b
+sets-append [] b l i = rw add-zero
+sets-append (x ∷ a) b l i = sets-append a b (set l i x) (suc i) ∙ ap (λ (j : ℕ). sets (sets (set l i x) (suc i) a) j b) (omega arith)
