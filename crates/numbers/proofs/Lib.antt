@@ -1,5 +1,6 @@
 pub mod Laws
+pub mod Bounds
 pub mod Bytes
+pub mod Exactly
 pub mod Forms
-pub mod Refused
 pub mod Examples

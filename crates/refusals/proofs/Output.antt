@@ -1,12 +1,11 @@
 -- Laws of ROOM, and of what a writer leaves.
 -- Assumes nothing.
-use mathlib.Core.Path.{_≡_, refl, sym, ap, _∙_}
-use mathlib.Core.List.{List, [], _∷_, _++_}
-use Prim.Native.Nat.{ℕ, suc, _+_, _≤_, _<_}
-use native.Mathlib.Nat.{add-zero}
+use mathlib.Core.Path.{_≡_, ap, _∙_}
+use mathlib.Core.List.{List}
+use Prim.Native.Nat.{ℕ, _+_, _≤_, _<_}
 use native.Mathlib.Decide.{decLt}
 use native.Mathlib.Omega.{arith}
-use lib.ListN.{length, set}
+use lib.ListN.{length}
 use lib.Seq.{sets}
 use borrow.Author.Tests.{le-leb, lt-leb}
 use Rattle.refusals.specs.declared.Fault.{Fault}
@@ -14,6 +13,7 @@ use Rattle.refusals.specs.declared.Fault.the-variants.{Room}
 use Rattle.refusals.specs.declared.Answer.{Answer}
 use Rattle.refusals.specs.declared.Answer.the-variants.{Accepted, Refused}
 use Rattle.refusals.specs.Output.{roomAnswer, putAnswer, leaves}
+use Rattle.refusals.proofs.Apart.{apart}
 
 pub room-enough : (len at needed : ℕ) → at + needed ≤ len → roomAnswer len at needed ≡ Accepted needed
 unfolding roomAnswer
@@ -37,8 +37,7 @@ module _ (out : List ℕ) (at : ℕ) (bytes : List ℕ) {k : ℕ} {answer : Answ
     | yes h ↦
         let short = room-short (length out) at (length bytes) h in
         let put = is-put in
-        let z : _≡_ {A = ℕ} 0 1 = cc in
-        absurd (omega arith)
+        apart cc
     | no h ↦ omega arith
   ]
 
@@ -51,8 +50,3 @@ module _ (out : List ℕ) (at : ℕ) (bytes : List ℕ) {k : ℕ} {answer : Answ
 -- The output of a writer whose bytes are known to fit.
 pub put-fits : (out : List ℕ) (at : ℕ) (bytes : List ℕ) {answer : Answer} {left : List ℕ} → at + length bytes ≤ length out → Put out at bytes answer left → left ≡ sets out at bytes
 put-fits out at bytes {answer} h p = p .1 ∙ ap (λ (a : Answer). leaves a out at bytes) (p .0 ∙ room-enough (length out) at (length bytes) h)
-
--- Two runs of stores, the second behind the first, are one.
-pub sets-append : (a b l : List ℕ) (i : ℕ) → sets l i (a ++ b) ≡ sets (sets l i a) (i + length a) b
-sets-append [] b l i = rw add-zero
-sets-append (x ∷ a) b l i = sets-append a b (set l i x) (suc i) ∙ ap (λ (j : ℕ). sets (sets (set l i x) (suc i) a) j b) (omega arith)
