@@ -48,5 +48,6 @@ module _ (out : List ℕ) (at : ℕ) (bytes : List ℕ) {k : ℕ} {answer : Answ
   put-refused is = (is-put, rw is)
 
 -- The output of a writer whose bytes are known to fit.
-pub put-fits : (out : List ℕ) (at : ℕ) (bytes : List ℕ) {answer : Answer} {left : List ℕ} → at + length bytes ≤ length out → Put out at bytes answer left → left ≡ sets out at bytes
+pub put-fits : (out : List ℕ) (at : ℕ) (bytes : List ℕ) {answer : Answer} {left : List ℕ} → at + length bytes ≤ length out
+    → Put out at bytes answer left → left ≡ sets out at bytes
 put-fits out at bytes {answer} h p = p .1 ∙ ap (λ (a : Answer). leaves a out at bytes) (p .0 ∙ room-enough (length out) at (length bytes) h)
