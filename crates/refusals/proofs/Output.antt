@@ -28,7 +28,8 @@ abbrev pub Put : List ℕ → ℕ → List ℕ → Answer → List ℕ → Type 
 Put out at bytes answer left = (answer ≡ putAnswer out at bytes) × (left ≡ leaves answer out at bytes)
 
 -- A writer that asks for the room of its bytes, and stores them where that is accepted.
-module _ (out : List ℕ) (at : ℕ) (bytes : List ℕ) {k : ℕ} {answer : Answer} (len : k ≡ length bytes) (asked : answer ≡ roomAnswer (length out) at k) where
+module _ (out : List ℕ) (at : ℕ) (bytes : List ℕ) {k : ℕ} {answer : Answer}
+    (len : k ≡ length bytes) (asked : answer ≡ roomAnswer (length out) at k) where
   is-put : answer ≡ putAnswer out at bytes
   is-put = asked ∙ ap (roomAnswer (length out) at) len
 

@@ -17,8 +17,7 @@ roomAnswer len at needed = cond (leb (at + needed) len) (Accepted needed) (Refus
 abbrev pub putAnswer : List ℕ → ℕ → List ℕ → Answer
 putAnswer out at bytes = roomAnswer (length out) at (length bytes)
 
--- The output after an answer: a refusal "leaves the lent output unaltered", an accepted answer has these bytes at their place and
--- changes no others.
+-- The output after an answer: a refusal "leaves the lent output unaltered", an accepted answer changes these bytes at their place.
 abbrev pub leaves : Answer → List ℕ → ℕ → List ℕ → List ℕ
 leaves (Accepted place) out at bytes = sets out at bytes
 leaves (Refused fault place) out at bytes = out
