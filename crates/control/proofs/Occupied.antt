@@ -1,0 +1,105 @@
+-- When a core occupies its slot, in numbers, for any n.
+-- Assumes nothing.
+use Prim.Native.Nat.{ℕ, zero, suc, _+_, _≤_, _<_}
+use native.Mathlib.Omega.{arith}
+use mathlib.Core.Path.{_≡_, refl, sym, _∙_}
+use mathlib.Core.Logic.{_↔_}
+use mathlib.Core.Bool.{Bool, true, false, _&&_, _||_, and-false}
+use mathlib.Core.List.{List, [], _∷_, _++_, append-nil}
+use lib.ListN.{take, drop}
+use lib.Dec.{ltb, leb·suc-suc}
+use borrow.Author.Tests.{lt-ltb, le-ltb, ltb-true}
+use Rattle.refusals.proofs.Apart.{apart}
+use Rattle.numbers.proofs.Bounds.{and-both}
+use Rattle.control.specs.declared.Bits.{Bits}
+use Rattle.control.specs.declared.Core.{Core}
+use Rattle.control.specs.declared.Control.{Control}
+use Rattle.control.specs.declared.Side.{Side}
+use Rattle.control.specs.declared.Side.the-variants.{Writer, Reader}
+use Rattle.control.specs.declared.Move.{Move}
+use Rattle.control.specs.declared.Move.the-variants.{Store, SetSlot, SetLatest, Load}
+use Rattle.control.specs.Simpson.{Action, act, eachWord, simpson}
+use Rattle.control.specs.Step.{coreOf, touches, someOf, occupies}
+
+-- Of these moves one on a word is among the first p, and one is past them.
+abbrev Amid : (Action → Bool) → List Action → ℕ → Type 0
+Amid word moves p = (someOf word (take p moves) && someOf word (drop p moves)) ≡ true
+
+or-neither : (a b : Bool) → (a || b) ≡ false → (a ≡ false) × (b ≡ false)
+or-neither true b h = apart cc
+or-neither false b h = (refl, h)
+
+module _ (word : Action → Bool) where
+  taken-none : (moves : List Action) (p : ℕ) → someOf word moves ≡ false → someOf word (take p moves) ≡ false
+  taken-none [] zero h = refl
+  taken-none [] (suc p) h = refl
+  taken-none (a ∷ moves) zero h = refl
+  taken-none (a ∷ moves) (suc p) h =
+      let t = or-neither (word a) (someOf word moves) h in
+      rw (t .0) (taken-none moves p (t .1))
+
+  left-none : (moves : List Action) (p : ℕ) → someOf word moves ≡ false → someOf word (drop p moves) ≡ false
+  left-none [] zero h = refl
+  left-none [] (suc p) h = refl
+  left-none (a ∷ moves) zero h = h
+  left-none (a ∷ moves) (suc p) h = left-none moves p (or-neither (word a) (someOf word moves) h .1)
+
+-- Moves for n words, and others after them: where it is amid those words.
+module _ (word : Action → Bool) (f : ℕ → Move) (each : (k : ℕ) → word (act (f k)) ≡ true) (rest : List Action) (none : someOf word rest ≡ false) where
+  some-taken : (i n p : ℕ) → someOf word (take p (eachWord f i n ++ rest)) ≡ ltb 0 p && ltb 0 n
+  unfolding eachWord
+  some-taken i zero p = taken-none word rest p none ∙ sym (and-false (ltb 0 p))
+  some-taken i (suc n) zero = refl
+  some-taken i (suc n) (suc p) = rw (each i, lt-ltb 0 (suc p) (omega arith), lt-ltb 0 (suc n) (omega arith))
+
+  some-left : (i n p : ℕ) → someOf word (drop p (eachWord f i n ++ rest)) ≡ ltb p n
+  unfolding eachWord
+  some-left i zero p = left-none word rest p none ∙ sym (le-ltb p 0 (omega arith))
+  some-left i (suc n) zero = rw (each i, lt-ltb 0 (suc n) (omega arith))
+  some-left i (suc n) (suc p) = some-left (suc i) n p ∙ sym (leb·suc-suc (suc p) n)
+
+  pub amid : (n p : ℕ) → Amid word (eachWord f 0 n ++ rest) p ↔ ((0 < p) × (p < n))
+  amid n p = (there, back)
+    where
+      there : Amid word (eachWord f 0 n ++ rest) p → (0 < p) × (p < n)
+      there h =
+          let e : (ltb 0 p && ltb 0 n) && ltb p n ≡ true = rw (some-taken 0 n p, some-left 0 n p) at h in
+          let t = and-both (ltb 0 p && ltb 0 n) (ltb p n) e in
+          (ltb-true 0 p (and-both (ltb 0 p) (ltb 0 n) (t .0) .0), ltb-true p n (t .1))
+
+      back : (0 < p) × (p < n) → Amid word (eachWord f 0 n ++ rest) p
+      back h =
+          let positive : 0 < n = omega (arith, h .0, h .1) in
+          rw (some-taken 0 n p, some-left 0 n p, lt-ltb 0 p (h .0), lt-ltb 0 n positive, lt-ltb p n (h .1))
+
+-- A mover's bits and locals tell which of its actions are on a word.
+abbrev onWord : Bits → Core → Action → Bool
+onWord b x a = touches (a b x .word)
+
+writer-amid : (b : Bits) (x : Core) (n p : ℕ) → Amid (onWord b x) (simpson Writer n) p ↔ ((3 ≤ p) × (p < n + 2))
+unfolding simpson
+writer-amid b x n zero = (λ h. apart cc, λ h. absurd (omega (arith, h .0)))
+writer-amid b x n (suc zero) = (λ h. apart cc, λ h. absurd (omega (arith, h .0)))
+writer-amid b x n (suc (suc q)) =
+    let m = amid (onWord b x) Store (λ k. refl) (act SetSlot ∷ act SetLatest ∷ []) refl n q in
+    (λ h. let t = m .0 h in (omega (arith, t .0), omega (arith, t .1)), λ h. m .1 (omega (arith, h .0), omega (arith, h .1)))
+
+-- "A core occupies a slot from just after its first word move until just after its last word move": a writer from phase 3 to n+1.
+pub writer-occupies : (c : Control) → (occupies simpson Writer c ≡ true) ↔ ((3 ≤ c .writer .phase) × (c .writer .phase < c .n + 2))
+unfolding occupies
+writer-occupies c = writer-amid (c .bits) (c .writer) (c .n) (c .writer .phase)
+
+reader-amid : (b : Bits) (x : Core) (n p : ℕ) → Amid (onWord b x) (simpson Reader n) p ↔ ((4 ≤ p) × (p < n + 3))
+unfolding simpson
+reader-amid b x n zero = (λ h. apart cc, λ h. absurd (omega (arith, h .0)))
+reader-amid b x n (suc zero) = (λ h. apart cc, λ h. absurd (omega (arith, h .0)))
+reader-amid b x n (suc (suc zero)) = (λ h. apart cc, λ h. absurd (omega (arith, h .0)))
+reader-amid b x n (suc (suc (suc q))) =
+    let m = amid (onWord b x) Load (λ k. refl) [] refl n q in
+    rw (← append-nil (eachWord Load 0 n))
+    (λ h. let t = m .0 h in (omega (arith, t .0), omega (arith, t .1)), λ h. m .1 (omega (arith, h .0), omega (arith, h .1)))
+
+-- The same of a reader: from phase 4 to n+2.
+pub reader-occupies : (c : Control) → (occupies simpson Reader c ≡ true) ↔ ((4 ≤ c .reader .phase) × (c .reader .phase < c .n + 3))
+unfolding occupies
+reader-occupies c = reader-amid (c .bits) (c .reader) (c .n) (c .reader .phase)
