@@ -1,0 +1,31 @@
+-- `machine::place_of` meets its contract.
+-- Assumes nothing.
+use native.Mathlib.Omega.{arith}
+use borrow.Author.Needs.{needs}
+use Rattle.machine.proofs.place_of.Statement.{statement}
+use Rattle.machine.proofs.place_of.Tie as tie
+
+add-result : tie.Need-add-result
+add-result c = search needs
+
+add-result-2 : tie.Need-add-result-2
+add-result-2 c = search needs
+
+add-result-3 : tie.Need-add-result-3
+add-result-3 c = search needs
+
+returns : tie.Need-returns
+returns c = (cc, omega arith)
+
+returns-2 : tie.Need-returns-2
+returns-2 c = (cc, omega arith)
+
+returns-3 : tie.Need-returns-3
+returns-3 c = (cc, omega arith)
+
+returns-4 : tie.Need-returns-4
+returns-4 c = search needs
+
+pub place-of-spec : {M : Type 1} → statement M
+place-of-spec =
+    tie.close (tie.spec add-result add-result-2 add-result-3 returns returns-2 returns-3 returns-4)
