@@ -16,23 +16,19 @@ use Rattle.control.specs.declared.Acted.{Acted}
 abbrev pub slotAt : Bits → Bool → Bool
 slotAt b pair = cond pair (b .slot1) (b .slot0)
 
--- slot[pair] := x
+-- The bits and a core's locals after an assignment: slot[pair] := x, latest := x, reading := x, pair := x, index := x.
 abbrev pub withSlot : Bits → Bool → Bool → Bits
 withSlot b pair x = record { latest = b .latest; reading = b .reading; slot0 = cond pair (b .slot0) x; slot1 = cond pair x (b .slot1) }
 
--- latest := x
 abbrev pub withLatest : Bits → Bool → Bits
 withLatest b x = record { latest = x; reading = b .reading; slot0 = b .slot0; slot1 = b .slot1 }
 
--- reading := x
 abbrev pub withReading : Bits → Bool → Bits
 withReading b x = record { latest = b .latest; reading = x; slot0 = b .slot0; slot1 = b .slot1 }
 
--- pair := x
 abbrev pub withPair : Core → Bool → Core
 withPair c x = record { phase = c .phase; pair = x; index = c .index }
 
--- index := x
 abbrev pub withIndex : Core → Bool → Core
 withIndex c x = record { phase = c .phase; pair = c .pair; index = x }
 

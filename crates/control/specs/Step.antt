@@ -30,12 +30,9 @@ abbrev pub coreOf : Side → Control → Core
 coreOf Writer c = c .writer
 coreOf Reader c = c .reader
 
-abbrev pub withCore : Side → Control → Core → Control
-withCore Writer c x = record { n = c .n; bits = c .bits; writer = x; reader = c .reader }
-withCore Reader c x = record { n = c .n; bits = c .bits; writer = c .writer; reader = x }
-
-abbrev pub withBits : Control → Bits → Control
-withBits c b = record { n = c .n; bits = b; writer = c .writer; reader = c .reader }
+abbrev pub after : Side → Control → Bits → Core → Control
+after Writer c b x = record { n = c .n; bits = b; writer = x; reader = c .reader }
+after Reader c b x = record { n = c .n; bits = b; writer = c .writer; reader = x }
 
 abbrev pub withPhase : Core → ℕ → Core
 withPhase c p = record { phase = p; pair = c .pair; index = c .index }
@@ -70,7 +67,7 @@ stepped side m action c =
       answer = Accepted 0;
       happened = event side m (core .phase);
       word = a .word;
-      control = withCore side (withBits c (a .bits)) (withPhase (a .core) (counted m (core .phase)));
+      control = after side c (a .bits) (withPhase (a .core) (counted m (core .phase)));
     }
 
 -- "STATE returns the state that came in, with no event."

@@ -6,7 +6,7 @@ ghost use mathlib.Core.Bool.{true};
 ghost use Prim.Native.Nat.{_<_, _≤_};
 ghost use lib.ListN.{getD, length};
 ghost use Rattle.control.specs.Simpson.{slotAt, withSlot, withLatest, withReading, withPair, withIndex, noWord, act, simpson};
-ghost use Rattle.control.specs.Step.{coreOf, withCore, withBits, withPhase, counted, event, sound, step, idle};
+ghost use Rattle.control.specs.Step.{coreOf, after, withPhase, counted, event, sound, step, idle};
 
 // The shared bits.
 pub struct Bits {
@@ -301,9 +301,10 @@ impl Control {
         }
     }
 
-    fn with_core(mut self, side: Side, core: Core) -> Control
-        ensures { λ r. ⌜ r ≡ withCore side self core ⌝ }
+    fn after(mut self, side: Side, bits: Bits, core: Core) -> Control
+        ensures { λ r. ⌜ r ≡ after side self bits core ⌝ }
     {
+        self.bits = bits;
         match side {
             Side::Writer => {
                 self.writer = core;
@@ -314,13 +315,6 @@ impl Control {
                 self
             }
         }
-    }
-
-    fn with_bits(mut self, bits: Bits) -> Control
-        ensures { λ r. ⌜ r ≡ withBits self bits ⌝ }
-    {
-        self.bits = bits;
-        self
     }
 
     // Whether the width is one that an item has, and each phase one that its call has.
@@ -347,13 +341,13 @@ impl Control {
         let acted = act(next, self.bits, core);
         let word = acted.word;
         let bits = acted.bits;
-        let after = acted.core;
-        let closed = after.counted(moves);
+        let moved = acted.core;
+        let counted = moved.counted(moves);
         Step {
             answer: Answer::Accepted { place: 0 },
             happened: event_at(side, moves, phase),
             word,
-            control: self.with_bits(bits).with_core(side, closed),
+            control: self.after(side, bits, counted),
         }
     }
 

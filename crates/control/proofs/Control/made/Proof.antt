@@ -19,30 +19,35 @@ act-requires : tie.Need-act-requires
 act-requires c κs = search needs
 
 counted-requires : tie.Need-counted-requires
-counted-requires c κs = rw (c .before .before .act .ensures, act-phase, c .before .before .before .before .before .core .ensures, c .before .before .before .before .moves-of .ensures) (in-call _ _ (c .before .before .before .before .before .before .pre))
+counted-requires c κs =
+    rw (
+      c .before .before .act .ensures,
+      act-phase,
+      c .before .before .before .before .before .core .ensures,
+      c .before .before .before .before .moves-of .ensures,
+    )
+    (in-call _ _ (c .before .before .before .before .before .before .pre))
 
 event-at-requires : tie.Need-event-at-requires
-event-at-requires c κs = rw (c .before .before .before .before .before .before .core .ensures, c .before .before .before .before .before .moves-of .ensures) (in-call _ _ (c .before .before .before .before .before .before .before .pre))
+event-at-requires c κs =
+    rw (c .before .before .before .before .before .before .core .ensures, c .before .before .before .before .before .moves-of .ensures)
+    (in-call _ _ (c .before .before .before .before .before .before .before .pre))
 
-with-bits-requires : tie.Need-with-bits-requires
-with-bits-requires c κs = search needs
-
-with-core-requires : tie.Need-with-core-requires
-with-core-requires c κs = search needs
+after-requires : tie.Need-after-requires
+after-requires c κs = search needs
 
 returns : tie.Need-returns
 returns c =
     rw (
-      c .with-core .ensures,
-      c .before .with-bits .ensures,
-      c .before .before .event-at .ensures,
-      c .before .before .before .counted .ensures,
-      c .before .before .before .before .before .before .act .ensures,
+      c .after .ensures,
+      c .before .event-at .ensures,
+      c .before .before .counted .ensures,
+      c .before .before .before .before .before .act .ensures,
       act-phase,
-      c .before .before .before .before .before .before .before .next-move .ensures,
-      c .before .before .before .before .before .before .before .before .moves-of .ensures,
-      c .before .before .before .before .before .before .before .before .before .core .ensures,
-      step-sound _ _ (c .before .before .before .before .before .before .before .before .before .before .pre),
+      c .before .before .before .before .before .before .next-move .ensures,
+      c .before .before .before .before .before .before .before .moves-of .ensures,
+      c .before .before .before .before .before .before .before .before .core .ensures,
+      step-sound _ _ (c .before .before .before .before .before .before .before .before .before .pre),
     )
 
 pub made-spec : {M : Type 1} → statement M
@@ -55,6 +60,5 @@ made-spec =
     act-requires
     counted-requires
     event-at-requires
-    with-bits-requires
-    with-core-requires
+    after-requires
     returns)

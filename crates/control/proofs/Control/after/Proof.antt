@@ -1,8 +1,8 @@
--- `control::Control::with_core` meets its contract.
+-- `control::Control::after` meets its contract.
 -- Assumes nothing.
 use borrow.Author.Needs.{needs}
-use Rattle.control.proofs.Control.with_core.Statement.{statement}
-use Rattle.control.proofs.Control.with_core.Tie as tie
+use Rattle.control.proofs.Control.after.Statement.{statement}
+use Rattle.control.proofs.Control.after.Tie as tie
 
 enum-told : tie.Need-enum-told
 enum-told c = search needs
@@ -16,5 +16,5 @@ returns c = rw (c .enum-told .given .1)
 returns-2 : tie.Need-returns-2
 returns-2 c = rw (c .enum-told2 .given .1)
 
-pub with-core-spec : {M : Type 1} → statement M
-with-core-spec = tie.close (tie.spec enum-told enum-told-2 returns returns-2)
+pub after-spec : {M : Type 1} → statement M
+after-spec = tie.close (tie.spec enum-told enum-told-2 returns returns-2)
