@@ -11,9 +11,7 @@ use Rattle.refusals.specs.declared.Answer.the-variants.{Accepted}
 use Rattle.numbers.proofs.Bounds.{and-both}
 use Rattle.items.specs.Item.{isWidth}
 use Rattle.control.specs.declared.Control.{Control}
-use Rattle.control.specs.declared.Side.{Side}
-use Rattle.control.specs.declared.Side.the-variants.{Writer, Reader}
-use Rattle.control.specs.Simpson.{Procedures}
+use Rattle.control.specs.Simpson.{Side, Writer, Reader, Procedures}
 use Rattle.control.specs.Step.{counted, sound, refused, step}
 
 -- Each side can always move (001's asynchrony): on a sound control part no move is refused.

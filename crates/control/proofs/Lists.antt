@@ -4,33 +4,34 @@ use Prim.Native.Nat.{ℕ, zero, suc, _+_, _≤_, _<_}
 use native.Mathlib.Nat.{add-zero, add-suc, suc-add, le-of-suc-le-suc, not-suc-le-zero}
 use native.Mathlib.Omega.{arith}
 use mathlib.Core.Path.{_≡_, refl, sym, ap, subst, _∙_}
+use mathlib.Core.Bool.{not}
 use mathlib.Core.List.{List, [], _∷_, _++_, append-nil}
 use lib.ListN.{length, getD, length-append}
 use lib.Seq.{getD-append-add}
-use Rattle.control.specs.declared.Side.{Side}
-use Rattle.control.specs.declared.Side.the-variants.{Writer, Reader}
-use Rattle.control.specs.declared.Move.{Move}
-use Rattle.control.specs.declared.Move.the-variants.{PairNotReading, IndexNotSlot, Store, SetSlot, SetLatest, PairLatest, SetReading, IndexSlot, Load}
-use Rattle.control.specs.Simpson.{Action, noWord, act, eachWord, simpson}
+use Rattle.control.specs.declared.Word.the-variants.{Untouched}
+use Rattle.control.specs.Simpson.{Action, slotAt, setPair, setIndex, setSlot, setLatest, setReading, store, load, eachWord, Side, Writer, Reader, simpson}
+
+-- No action: where a list of moves has none.
+abbrev pub stay : Action
+stay b x = record { bits = b; core = x; word = Untouched }
 
 -- A move for each word, and what comes after them.
-module _ (f : ℕ → Move) where
-  each-at : (i n k : ℕ) (rest : List Action) → k < n → getD (eachWord f i n ++ rest) k noWord ≡ act (f (i + k))
+module _ (f : ℕ → Action) where
+  each-at : (i n k : ℕ) (rest : List Action) → k < n → getD (eachWord f i n ++ rest) k stay ≡ f (i + k)
   unfolding eachWord
   each-at i zero k rest h = absurd (not-suc-le-zero h)
-  each-at i (suc n) zero rest h = ap (λ (j : ℕ). act (f j)) (sym (add-zero i))
-  each-at i (suc n) (suc k) rest h =
-      each-at (suc i) n k rest (le-of-suc-le-suc h) ∙ ap (λ (j : ℕ). act (f j)) (suc-add i k ∙ sym (add-suc i k))
+  each-at i (suc n) zero rest h = ap f (sym (add-zero i))
+  each-at i (suc n) (suc k) rest h = each-at (suc i) n k rest (le-of-suc-le-suc h) ∙ ap f (suc-add i k ∙ sym (add-suc i k))
 
-  pub each-length : (i n : ℕ) → length (eachWord f i n) ≡ n
+  each-length : (i n : ℕ) → length (eachWord f i n) ≡ n
   unfolding eachWord
   each-length i zero = refl
   each-length i (suc n) = ap suc (each-length (suc i) n)
 
-  each-past : (i n j : ℕ) (rest : List Action) → getD (eachWord f i n ++ rest) (n + j) noWord ≡ getD rest j noWord
+  each-past : (i n j : ℕ) (rest : List Action) → getD (eachWord f i n ++ rest) (n + j) stay ≡ getD rest j stay
   each-past i n j rest =
-      subst (λ (m : ℕ). getD (eachWord f i n ++ rest) (m + j) noWord ≡ getD rest j noWord) (each-length i n)
-      (getD-append-add (eachWord f i n) rest j noWord)
+      subst (λ (m : ℕ). getD (eachWord f i n ++ rest) (m + j) stay ≡ getD rest j stay) (each-length i n)
+      (getD-append-add (eachWord f i n) rest j stay)
 
 -- "A write takes n+4 moves"
 pub write-length : (n : ℕ) → length (simpson Writer n) ≡ n + 4
@@ -42,47 +43,45 @@ pub read-length : (n : ℕ) → length (simpson Reader n) ≡ n + 3
 unfolding simpson
 read-length n = simp each-length (omega arith)
 
--- The action of a side's call of width n, at a phase.
+-- The action of a call of width n at a phase.
 abbrev pub actionAt : Side → ℕ → ℕ → Action
-actionAt side n p = getD (simpson side n) p noWord
+actionAt side n p = getD (simpson side n) p stay
 
 module _ (n p : ℕ) where
-  pub writing-pair : p ≡ 0 → actionAt Writer n p ≡ act PairNotReading
+  pub writing-pair : p ≡ 0 → actionAt Writer n p ≡ setPair (λ b c. not (b .reading))
   unfolding simpson
   writing-pair e = rw e
 
-  pub writing-index : p ≡ 1 → actionAt Writer n p ≡ act IndexNotSlot
+  pub writing-index : p ≡ 1 → actionAt Writer n p ≡ setIndex (λ b c. not (slotAt b (c .pair)))
   unfolding simpson
   writing-index e = rw e
 
-  pub writing-word : (k : ℕ) → p ≡ suc (suc k) → k < n → actionAt Writer n p ≡ act (Store k)
+  pub writing-word : (k : ℕ) → p ≡ suc (suc k) → k < n → actionAt Writer n p ≡ store k
   unfolding simpson
-  writing-word k e h = rw e (each-at Store 0 n k _ h ∙ ap (λ (j : ℕ). act (Store j)) (omega arith))
+  writing-word k e h = rw e (each-at store 0 n k _ h ∙ ap store (omega arith))
 
-  writing-past : (j : ℕ) → p ≡ suc (suc (n + j)) → actionAt Writer n p ≡ getD (act SetSlot ∷ act SetLatest ∷ []) j noWord
+  writing-past : (j : ℕ) → p ≡ suc (suc (n + j)) → actionAt Writer n p ≡ getD (setSlot (λ b c. c .index) ∷ setLatest (λ b c. c .pair) ∷ []) j stay
   unfolding simpson
-  writing-past j e = rw e (each-past Store 0 n j _)
+  writing-past j e = rw e (each-past store 0 n j _)
 
-  pub writing-slot : p ≡ suc (suc n) → actionAt Writer n p ≡ act SetSlot
+  pub writing-slot : p ≡ suc (suc n) → actionAt Writer n p ≡ setSlot (λ b c. c .index)
   writing-slot e = writing-past 0 (omega arith)
 
-  pub writing-latest : suc (suc n) < p → p < length (simpson Writer n) → actionAt Writer n p ≡ act SetLatest
-  writing-latest h l = writing-past 1 (omega (arith, write-length n))
+  pub writing-latest : p ≡ suc (suc (suc n)) → actionAt Writer n p ≡ setLatest (λ b c. c .pair)
+  writing-latest e = writing-past 1 (omega arith)
 
-  pub reading-pair : p ≡ 0 → actionAt Reader n p ≡ act PairLatest
+  pub reading-pair : p ≡ 0 → actionAt Reader n p ≡ setPair (λ b c. b .latest)
   unfolding simpson
   reading-pair e = rw e
 
-  pub reading-announce : p ≡ 1 → actionAt Reader n p ≡ act SetReading
+  pub reading-announce : p ≡ 1 → actionAt Reader n p ≡ setReading (λ b c. c .pair)
   unfolding simpson
   reading-announce e = rw e
 
-  pub reading-index : p ≡ 2 → actionAt Reader n p ≡ act IndexSlot
+  pub reading-index : p ≡ 2 → actionAt Reader n p ≡ setIndex (λ b c. slotAt b (c .pair))
   unfolding simpson
   reading-index e = rw e
 
-  pub reading-word : (k : ℕ) → p ≡ suc (suc (suc k)) → p < length (simpson Reader n) → actionAt Reader n p ≡ act (Load k)
+  pub reading-word : (k : ℕ) → p ≡ suc (suc (suc k)) → k < n → actionAt Reader n p ≡ load k
   unfolding simpson
-  reading-word k e l =
-      let h : k < n = omega (arith, read-length n) in
-      rw e (rw (← append-nil (eachWord Load 0 n)) (each-at Load 0 n k [] h ∙ ap (λ (j : ℕ). act (Load j)) (omega arith)))
+  reading-word k e h = rw e (rw (← append-nil (eachWord load 0 n)) (each-at load 0 n k [] h ∙ ap load (omega arith)))

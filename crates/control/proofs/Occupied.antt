@@ -14,11 +14,7 @@ use Rattle.numbers.proofs.Bounds.{and-both}
 use Rattle.control.specs.declared.Bits.{Bits}
 use Rattle.control.specs.declared.Core.{Core}
 use Rattle.control.specs.declared.Control.{Control}
-use Rattle.control.specs.declared.Side.{Side}
-use Rattle.control.specs.declared.Side.the-variants.{Writer, Reader}
-use Rattle.control.specs.declared.Move.{Move}
-use Rattle.control.specs.declared.Move.the-variants.{Store, SetSlot, SetLatest, Load}
-use Rattle.control.specs.Simpson.{Action, act, eachWord, simpson}
+use Rattle.control.specs.Simpson.{Action, setSlot, setLatest, store, load, eachWord, Side, Writer, Reader, simpson}
 use Rattle.control.specs.Step.{coreOf, touches, someOf, occupies}
 
 -- Of these moves one on a word is among the first p, and one is past them.
@@ -45,7 +41,7 @@ module _ (word : Action → Bool) where
   left-none (a ∷ moves) (suc p) h = left-none moves p (or-neither (word a) (someOf word moves) h .1)
 
 -- Moves for n words, and others after them: where it is amid those words.
-module _ (word : Action → Bool) (f : ℕ → Move) (each : (k : ℕ) → word (act (f k)) ≡ true) (rest : List Action) (none : someOf word rest ≡ false) where
+module _ (word : Action → Bool) (f : ℕ → Action) (each : (k : ℕ) → word (f k) ≡ true) (rest : List Action) (none : someOf word rest ≡ false) where
   some-taken : (i n p : ℕ) → someOf word (take p (eachWord f i n ++ rest)) ≡ ltb 0 p && ltb 0 n
   unfolding eachWord
   some-taken i zero p = taken-none word rest p none ∙ sym (and-false (ltb 0 p))
@@ -81,7 +77,7 @@ unfolding simpson
 writer-amid b x n zero = (λ h. apart cc, λ h. absurd (omega (arith, h .0)))
 writer-amid b x n (suc zero) = (λ h. apart cc, λ h. absurd (omega (arith, h .0)))
 writer-amid b x n (suc (suc q)) =
-    let m = amid (onWord b x) Store (λ k. refl) (act SetSlot ∷ act SetLatest ∷ []) refl n q in
+    let m = amid (onWord b x) store (λ k. refl) (setSlot (λ b c. c .index) ∷ setLatest (λ b c. c .pair) ∷ []) refl n q in
     (λ h. let t = m .0 h in (omega (arith, t .0), omega (arith, t .1)), λ h. m .1 (omega (arith, h .0), omega (arith, h .1)))
 
 -- "A core occupies a slot from just after its first word move until just after its last word move": a writer from phase 3 to n+1.
@@ -95,8 +91,8 @@ reader-amid b x n zero = (λ h. apart cc, λ h. absurd (omega (arith, h .0)))
 reader-amid b x n (suc zero) = (λ h. apart cc, λ h. absurd (omega (arith, h .0)))
 reader-amid b x n (suc (suc zero)) = (λ h. apart cc, λ h. absurd (omega (arith, h .0)))
 reader-amid b x n (suc (suc (suc q))) =
-    let m = amid (onWord b x) Load (λ k. refl) [] refl n q in
-    rw (← append-nil (eachWord Load 0 n))
+    let m = amid (onWord b x) load (λ k. refl) [] refl n q in
+    rw (← append-nil (eachWord load 0 n))
     (λ h. let t = m .0 h in (omega (arith, t .0), omega (arith, t .1)), λ h. m .1 (omega (arith, h .0), omega (arith, h .1)))
 
 -- The same of a reader: from phase 4 to n+2.

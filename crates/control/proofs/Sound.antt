@@ -4,16 +4,15 @@ use Prim.Native.Nat.{ℕ, _+_, _≤_, _<_}
 use native.Mathlib.Omega.{arith}
 use mathlib.Core.Path.{_≡_, refl, sym, _∙_}
 use mathlib.Core.Logic.{_↔_}
-use mathlib.Core.Bool.{Bool, true, false, _&&_}
+use mathlib.Core.Bool.{Bool, true, false, not, _&&_}
 use lib.ListN.{length}
 use lib.Dec.{ltb}
 use borrow.Author.Tests.{lt-ltb, le-ltb, ltb-true}
+use Rattle.refusals.proofs.Apart.{apart}
 use Rattle.numbers.proofs.Bounds.{between-in, between-true, and-both}
 use Rattle.items.specs.Item.{isWidth}
 use Rattle.control.specs.declared.Control.{Control}
-use Rattle.control.specs.declared.Side.{Side}
-use Rattle.control.specs.declared.Side.the-variants.{Writer, Reader}
-use Rattle.control.specs.Simpson.{simpson}
+use Rattle.control.specs.Simpson.{Side, Writer, Reader, simpson}
 use Rattle.control.specs.Step.{coreOf, sound}
 use Rattle.control.proofs.Lists.{write-length, read-length}
 
@@ -63,6 +62,15 @@ sound-first c h =
 pub sound-last : (c : Control) → 1 ≤ c .n → c .n ≤ 8 → c .writer .phase < c .n + 4 → ltb (c .reader .phase) (c .n + 3) ≡ sound simpson c
 unfolding sound
 sound-last c lo hi h = simp (write-length, read-length, between-in 1 8 (c .n) lo hi, lt-ltb (c .writer .phase) (c .n + 4) h)
+
+-- What a test that it is not sound tells.
+pub tested-sound : (c : Control) (b : Bool) → b ≡ sound simpson c → not b ≡ false → sound simpson c ≡ true
+tested-sound c true e h = sym e
+tested-sound c false e h = apart cc
+
+pub tested-unsound : (c : Control) (b : Bool) → b ≡ sound simpson c → not b ≡ true → sound simpson c ≡ false
+tested-unsound c true e h = apart cc
+tested-unsound c false e h = sym e
 
 -- A sound phase is one that its call has.
 pub in-call : (side : Side) (c : Control) → sound simpson c ≡ true → coreOf side c .phase < length (simpson side (c .n))

@@ -1,68 +1,71 @@
--- 01, "The machine": what each move does to the bits and to the mover's pair and index, and the two procedures (001, figure 11).
+-- 01, "The machine": Simpson's two procedures (001, figure 11), each a list of actions.
 use Prim.Native.Nat.{ℕ, zero, suc}
 use mathlib.Core.Bool.{Bool, not, cond}
 use mathlib.Core.List.{List, [], _∷_, _++_}
 use Rattle.control.specs.declared.Bits.{Bits}
 use Rattle.control.specs.declared.Core.{Core}
-use Rattle.control.specs.declared.Side.{Side}
-use Rattle.control.specs.declared.Side.the-variants.{Writer, Reader}
-use Rattle.control.specs.declared.Move.{Move}
-use Rattle.control.specs.declared.Move.the-variants.{PairNotReading, IndexNotSlot, Store, SetSlot, SetLatest, PairLatest, SetReading, IndexSlot, Load}
 use Rattle.control.specs.declared.Word.{Word}
 use Rattle.control.specs.declared.Word.the-variants.{Untouched, Stored, Loaded}
-use Rattle.control.specs.declared.Acted.{Acted}
+
+-- What an action leaves: the bits, the mover's locals, and what is done with which word.
+pub record Acted : Type 0 where
+  pub bits : Bits
+  pub core : Core
+  pub word : Word
+
+abbrev pub Action : Type 0
+Action = Bits → Core → Acted
 
 -- slot[pair]
 abbrev pub slotAt : Bits → Bool → Bool
 slotAt b pair = cond pair (b .slot1) (b .slot0)
 
--- The bits and a core's locals after an assignment: slot[pair] := x, latest := x, reading := x, pair := x, index := x.
-abbrev pub withSlot : Bits → Bool → Bool → Bits
-withSlot b pair x = record { latest = b .latest; reading = b .reading; slot0 = cond pair (b .slot0) x; slot1 = cond pair x (b .slot1) }
+-- pair := x, index := x, slot[pair] := x, latest := x, reading := x
+abbrev pub setPair : (Bits → Core → Bool) → Action
+setPair x b c = record { bits = b; core = record { phase = c .phase; pair = x b c; index = c .index }; word = Untouched }
 
-abbrev pub withLatest : Bits → Bool → Bits
-withLatest b x = record { latest = x; reading = b .reading; slot0 = b .slot0; slot1 = b .slot1 }
+abbrev pub setIndex : (Bits → Core → Bool) → Action
+setIndex x b c = record { bits = b; core = record { phase = c .phase; pair = c .pair; index = x b c }; word = Untouched }
 
-abbrev pub withReading : Bits → Bool → Bits
-withReading b x = record { latest = b .latest; reading = x; slot0 = b .slot0; slot1 = b .slot1 }
+abbrev pub setSlot : (Bits → Core → Bool) → Action
+setSlot x b c =
+    let bit0 = cond (c .pair) (b .slot0) (x b c) in
+    let bit1 = cond (c .pair) (x b c) (b .slot1) in
+    record { bits = record { latest = b .latest; reading = b .reading; slot0 = bit0; slot1 = bit1 }; core = c; word = Untouched }
 
-abbrev pub withPair : Core → Bool → Core
-withPair c x = record { phase = c .phase; pair = x; index = c .index }
+abbrev pub setLatest : (Bits → Core → Bool) → Action
+setLatest x b c = record { bits = record { latest = x b c; reading = b .reading; slot0 = b .slot0; slot1 = b .slot1 }; core = c; word = Untouched }
 
-abbrev pub withIndex : Core → Bool → Core
-withIndex c x = record { phase = c .phase; pair = c .pair; index = x }
+abbrev pub setReading : (Bits → Core → Bool) → Action
+setReading x b c = record { bits = record { latest = b .latest; reading = x b c; slot0 = b .slot0; slot1 = b .slot1 }; core = c; word = Untouched }
 
--- An action: from the bits and the mover's locals to those after it, and what is done with which word.
-abbrev pub Action : Type 0
-Action = Bits → Core → Acted
+-- Word k of the mover's item is stored into the slot (pair, index), or loaded from it.
+abbrev pub store : ℕ → Action
+store k b c = record { bits = b; core = c; word = Stored k }
 
-abbrev pub onWord : Word → Action
-onWord w b c = record { bits = b; core = c; word = w }
+abbrev pub load : ℕ → Action
+load k b c = record { bits = b; core = c; word = Loaded k }
 
-abbrev pub noWord : Action
-noWord b c = onWord Untouched b c
+-- "words 0 to n-1 .. one a move": an action for each of n words from i on.
+unfoldable pub eachWord : (ℕ → Action) → ℕ → ℕ → List Action
+eachWord f i zero = []
+eachWord f i (suc n) = f i ∷ eachWord f (suc i) n
 
--- What each move does.
-abbrev pub act : Move → Action
-act PairNotReading b c = noWord b (withPair c (not (b .reading)))
-act IndexNotSlot b c = noWord b (withIndex c (not (slotAt b (c .pair))))
-act (Store k) b c = onWord (Stored k) b c
-act SetSlot b c = noWord (withSlot b (c .pair) (c .index)) c
-act SetLatest b c = noWord (withLatest b (c .pair)) c
-act PairLatest b c = noWord b (withPair c (b .latest))
-act SetReading b c = noWord (withReading b (c .pair)) c
-act IndexSlot b c = noWord b (withIndex c (slotAt b (c .pair)))
-act (Load k) b c = onWord (Loaded k) b c
+pub data Side : Type 0 where
+  Writer : Side
+  Reader : Side
 
 -- The moves of a call of either side, in order, for each width.
 abbrev pub Procedures : Type 0
 Procedures = Side → ℕ → List Action
 
--- "words 0 to n-1 .. one a move": a move for each of n words from i on.
-unfoldable pub eachWord : (ℕ → Move) → ℕ → ℕ → List Action
-eachWord f i zero = []
-eachWord f i (suc n) = act (f i) ∷ eachWord f (suc i) n
-
 unfoldable pub simpson : Procedures
-simpson Writer n = act PairNotReading ∷ act IndexNotSlot ∷ (eachWord Store 0 n ++ (act SetSlot ∷ act SetLatest ∷ []))
-simpson Reader n = act PairLatest ∷ act SetReading ∷ act IndexSlot ∷ eachWord Load 0 n
+simpson Writer n =
+    setPair (λ b c. not (b .reading))
+    ∷ setIndex (λ b c. not (slotAt b (c .pair)))
+    ∷ (eachWord store 0 n ++ (setSlot (λ b c. c .index) ∷ setLatest (λ b c. c .pair) ∷ []))
+simpson Reader n =
+    setPair (λ b c. b .latest)
+    ∷ setReading (λ b c. c .pair)
+    ∷ setIndex (λ b c. slotAt b (c .pair))
+    ∷ eachWord load 0 n

@@ -2,11 +2,9 @@
 use refusals::Answer;
 use refusals::Fault;
 ghost use mathlib.Core.Path.{_≡_};
-ghost use mathlib.Core.Bool.{true};
-ghost use Prim.Native.Nat.{_<_, _≤_};
-ghost use lib.ListN.{getD, length};
-ghost use Rattle.control.specs.Simpson.{slotAt, withSlot, withLatest, withReading, withPair, withIndex, noWord, act, simpson};
-ghost use Rattle.control.specs.Step.{coreOf, after, withPhase, counted, event, sound, step, idle};
+ghost use mathlib.Core.Bool.{not};
+ghost use Rattle.control.specs.Simpson.{Writer, Reader, slotAt, setPair, setIndex, setSlot, setLatest, setReading, simpson};
+ghost use Rattle.control.specs.Step.{idle, does, atPhase, sound, accepted, refused, step};
 
 // The shared bits.
 pub struct Bits {
@@ -31,24 +29,6 @@ pub struct Control {
     pub reader: Core,
 }
 
-pub enum Side {
-    Writer,
-    Reader,
-}
-
-// The moves of the two procedures, each named for its assignment; a word's move has the word's number.
-pub enum Move {
-    PairNotReading,
-    IndexNotSlot,
-    Store(usize),
-    SetSlot,
-    SetLatest,
-    PairLatest,
-    SetReading,
-    IndexSlot,
-    Load(usize),
-}
-
 // What a move does with a word: it stores word k of the writer's item into the slot (pair, index), or loads word k from there.
 pub enum Word {
     Untouched,
@@ -63,13 +43,6 @@ pub enum Happened {
     WriteReturned,
     ReadCalled,
     ReadReturned,
-}
-
-// Bits and the mover's locals after an action, and what is done with which word.
-pub struct Acted {
-    pub bits: Bits,
-    pub core: Core,
-    pub word: Word,
 }
 
 // A move's answer: its event, what is done with which word, and the control part after it.
@@ -87,189 +60,10 @@ impl Bits {
     {
         if pair { self.slot1 } else { self.slot0 }
     }
-
-    // slot[pair] := bit
-    fn with_slot(mut self, pair: bool, bit: bool) -> Bits
-        ensures { λ r. ⌜ r ≡ withSlot self pair bit ⌝ }
-    {
-        if pair {
-            self.slot1 = bit;
-            self
-        } else {
-            self.slot0 = bit;
-            self
-        }
-    }
-
-    // latest := bit
-    fn with_latest(mut self, bit: bool) -> Bits
-        ensures { λ r. ⌜ r ≡ withLatest self bit ⌝ }
-    {
-        self.latest = bit;
-        self
-    }
-
-    // reading := bit
-    fn with_reading(mut self, bit: bool) -> Bits
-        ensures { λ r. ⌜ r ≡ withReading self bit ⌝ }
-    {
-        self.reading = bit;
-        self
-    }
-}
-
-impl Core {
-    // pair := bit
-    fn with_pair(mut self, bit: bool) -> Core
-        ensures { λ r. ⌜ r ≡ withPair self bit ⌝ }
-    {
-        self.pair = bit;
-        self
-    }
-
-    // index := bit
-    fn with_index(mut self, bit: bool) -> Core
-        ensures { λ r. ⌜ r ≡ withIndex self bit ⌝ }
-    {
-        self.index = bit;
-        self
-    }
-
-    // One move more is done; a call that has made all its moves is closed.
-    fn counted(mut self, moves: usize) -> Core
-        requires { ⌜ self .phase < moves ⌝ }
-        ensures { λ r. ⌜ r ≡ withPhase self (counted moves (self .phase)) ⌝ }
-    {
-        let next = self.phase + 1;
-        if next == moves {
-            self.phase = 0;
-            self
-        } else {
-            self.phase = next;
-            self
-        }
-    }
-}
-
-// An action on no word.
-fn no_word(bits: Bits, core: Core) -> Acted
-    ensures { λ r. ⌜ r ≡ noWord bits core ⌝ }
-{
-    Acted {
-        bits,
-        core,
-        word: Word::Untouched,
-    }
-}
-
-// What a move does.
-fn act(made: Move, bits: Bits, core: Core) -> Acted
-    ensures { λ r. ⌜ r ≡ act made bits core ⌝ }
-{
-    match made {
-        Move::PairNotReading => no_word(bits, core.with_pair(!bits.reading)),
-        Move::IndexNotSlot => no_word(bits, core.with_index(!bits.slot_at(core.pair))),
-        Move::Store(k) => Acted {
-            bits,
-            core,
-            word: Word::Stored(k),
-        },
-        Move::SetSlot => no_word(bits.with_slot(core.pair, core.index), core),
-        Move::SetLatest => no_word(bits.with_latest(core.pair), core),
-        Move::PairLatest => no_word(bits, core.with_pair(bits.latest)),
-        Move::SetReading => no_word(bits.with_reading(core.pair), core),
-        Move::IndexSlot => no_word(bits, core.with_index(bits.slot_at(core.pair))),
-        Move::Load(k) => Acted {
-            bits,
-            core,
-            word: Word::Loaded(k),
-        },
-    }
-}
-
-// The move of a write that has done so many.
-fn writing_at(n: usize, phase: usize) -> Move
-    requires { ⌜ phase < length (simpson Side.Writer n) ⌝ }
-    ensures { λ r. ⌜ act r ≡ getD (simpson Side.Writer n) phase noWord ⌝ }
-{
-    match phase {
-        0 => Move::PairNotReading,
-        1 => Move::IndexNotSlot,
-        _ => {
-            let word = phase - 2;
-            if word < n {
-                Move::Store(word)
-            } else {
-                let past = word - n;
-                match past {
-                    0 => Move::SetSlot,
-                    _ => Move::SetLatest,
-                }
-            }
-        }
-    }
-}
-
-// The move of a read that has done so many.
-fn reading_at(n: usize, phase: usize) -> Move
-    requires { ⌜ phase < length (simpson Side.Reader n) ⌝ }
-    ensures { λ r. ⌜ act r ≡ getD (simpson Side.Reader n) phase noWord ⌝ }
-{
-    match phase {
-        0 => Move::PairLatest,
-        1 => Move::SetReading,
-        2 => Move::IndexSlot,
-        _ => {
-            let word = phase - 3;
-            Move::Load(word)
-        }
-    }
-}
-
-// The next move of a call that has done so many.
-fn next_move(side: Side, n: usize, phase: usize) -> Move
-    requires { ⌜ phase < length (simpson side n) ⌝ }
-    ensures { λ r. ⌜ act r ≡ getD (simpson side n) phase noWord ⌝ }
-{
-    match side {
-        Side::Writer => writing_at(n, phase),
-        Side::Reader => reading_at(n, phase),
-    }
-}
-
-// How many moves a call takes.
-fn moves_of(side: Side, n: usize) -> usize
-    requires { ⌜ n ≤ 8 ⌝ }
-    ensures { λ r. ⌜ r ≡ length (simpson side n) ⌝ }
-{
-    match side {
-        Side::Writer => n + 4,
-        Side::Reader => n + 3,
-    }
-}
-
-// The event of a move: a call's at its first, a return's at its last.
-fn event_at(side: Side, moves: usize, phase: usize) -> Happened
-    requires { ⌜ phase < moves ⌝ }
-    ensures { λ r. ⌜ r ≡ event side moves phase ⌝ }
-{
-    if phase == 0 {
-        return match side {
-            Side::Writer => Happened::WriteCalled,
-            Side::Reader => Happened::ReadCalled,
-        };
-    }
-    if phase + 1 == moves {
-        return match side {
-            Side::Writer => Happened::WriteReturned,
-            Side::Reader => Happened::ReadReturned,
-        };
-    }
-    Happened::NoEvent
 }
 
 impl Control {
-    // All bits and locals 0, both cores idle.
+    // All bits and locals 0, both cores idle. A width outside 1 to 8 gives a control part that every move refuses.
     pub fn idle(n: usize) -> Control
         ensures { λ r. ⌜ r ≡ idle n ⌝ }
     {
@@ -292,31 +86,6 @@ impl Control {
         }
     }
 
-    fn core(self, side: Side) -> Core
-        ensures { λ r. ⌜ r ≡ coreOf side self ⌝ }
-    {
-        match side {
-            Side::Writer => self.writer,
-            Side::Reader => self.reader,
-        }
-    }
-
-    fn after(mut self, side: Side, bits: Bits, core: Core) -> Control
-        ensures { λ r. ⌜ r ≡ after side self bits core ⌝ }
-    {
-        self.bits = bits;
-        match side {
-            Side::Writer => {
-                self.writer = core;
-                self
-            }
-            Side::Reader => {
-                self.reader = core;
-                self
-            }
-        }
-    }
-
     // Whether the width is one that an item has, and each phase one that its call has.
     fn sound(self) -> bool
         ensures { λ r. ⌜ r ≡ sound simpson self ⌝ }
@@ -328,37 +97,9 @@ impl Control {
         }
     }
 
-    // A move of a sound control part.
-    fn made(self, side: Side) -> Step
-        requires { ⌜ sound simpson self ≡ true ⌝ }
-        ensures { λ r. ⌜ r ≡ step simpson side self ⌝ }
+    fn refused(self) -> Step
+        ensures { λ r. ⌜ r ≡ refused self ⌝ }
     {
-        let core = self.core(side);
-        let phase = core.phase;
-        let n = self.n;
-        let moves = moves_of(side, n);
-        let next = next_move(side, n, phase);
-        let acted = act(next, self.bits, core);
-        let word = acted.word;
-        let bits = acted.bits;
-        let moved = acted.core;
-        let counted = moved.counted(moves);
-        Step {
-            answer: Answer::Accepted { place: 0 },
-            happened: event_at(side, moves, phase),
-            word,
-            control: self.after(side, bits, counted),
-        }
-    }
-
-    // One move of this side. STATE, and the control part that came in, where the width is outside 1 to 8 or either core's phase is
-    // past its call's last move.
-    pub fn step(self, side: Side) -> Step
-        ensures { λ r. ⌜ r ≡ step simpson side self ⌝ }
-    {
-        if self.sound() {
-            return self.made(side);
-        }
         Step {
             answer: Answer::Refused {
                 fault: Fault::State,
@@ -367,6 +108,159 @@ impl Control {
             happened: Happened::NoEvent,
             word: Word::Untouched,
             control: self,
+        }
+    }
+
+    // A move of the writer that leaves it at this phase.
+    fn writer_at(mut self, phase: usize, happened: Happened, word: Word) -> Step
+        ensures { λ r. ⌜ r ≡ accepted happened word (atPhase Writer phase self) ⌝ }
+    {
+        self.writer.phase = phase;
+        Step {
+            answer: Answer::Accepted { place: 0 },
+            happened,
+            word,
+            control: self,
+        }
+    }
+
+    // A move of the reader that leaves it at this phase.
+    fn reader_at(mut self, phase: usize, happened: Happened, word: Word) -> Step
+        ensures { λ r. ⌜ r ≡ accepted happened word (atPhase Reader phase self) ⌝ }
+    {
+        self.reader.phase = phase;
+        Step {
+            answer: Answer::Accepted { place: 0 },
+            happened,
+            word,
+            control: self,
+        }
+    }
+
+    // The writer's pair := not reading
+    fn pair_not_reading(mut self) -> Control
+        ensures { λ r. ⌜ r ≡ does Writer (setPair (λ b c. not (b .reading))) self ⌝ }
+    {
+        let pair = !self.bits.reading;
+        self.writer.pair = pair;
+        self
+    }
+
+    // The writer's index := not slot[pair]
+    fn index_not_slot(mut self) -> Control
+        ensures { λ r. ⌜ r ≡ does Writer (setIndex (λ b c. not (slotAt b (c .pair)))) self ⌝ }
+    {
+        let index = !self.bits.slot_at(self.writer.pair);
+        self.writer.index = index;
+        self
+    }
+
+    // slot[pair] := index
+    fn slot_index(mut self) -> Control
+        ensures { λ r. ⌜ r ≡ does Writer (setSlot (λ b c. c .index)) self ⌝ }
+    {
+        let index = self.writer.index;
+        if self.writer.pair {
+            self.bits.slot1 = index;
+            self
+        } else {
+            self.bits.slot0 = index;
+            self
+        }
+    }
+
+    // latest := pair
+    fn latest_pair(mut self) -> Control
+        ensures { λ r. ⌜ r ≡ does Writer (setLatest (λ b c. c .pair)) self ⌝ }
+    {
+        let pair = self.writer.pair;
+        self.bits.latest = pair;
+        self
+    }
+
+    // The reader's pair := latest
+    fn pair_latest(mut self) -> Control
+        ensures { λ r. ⌜ r ≡ does Reader (setPair (λ b c. b .latest)) self ⌝ }
+    {
+        let pair = self.bits.latest;
+        self.reader.pair = pair;
+        self
+    }
+
+    // reading := pair
+    fn reading_pair(mut self) -> Control
+        ensures { λ r. ⌜ r ≡ does Reader (setReading (λ b c. c .pair)) self ⌝ }
+    {
+        let pair = self.reader.pair;
+        self.bits.reading = pair;
+        self
+    }
+
+    // The reader's index := slot[pair]
+    fn index_slot(mut self) -> Control
+        ensures { λ r. ⌜ r ≡ does Reader (setIndex (λ b c. slotAt b (c .pair))) self ⌝ }
+    {
+        let index = self.bits.slot_at(self.reader.pair);
+        self.reader.index = index;
+        self
+    }
+
+    // One move of the writer. STATE, and the control part that came in, where the width is outside 1 to 8 or either core's phase is
+    // past its call's last move.
+    pub fn writer_move(self) -> Step
+        ensures { λ r. ⌜ r ≡ step simpson Writer self ⌝ }
+    {
+        if !self.sound() {
+            return self.refused();
+        }
+        let phase = self.writer.phase;
+        match phase {
+            0 => self.pair_not_reading()
+                .writer_at(1, Happened::WriteCalled, Word::Untouched),
+            1 => self.index_not_slot()
+                .writer_at(2, Happened::NoEvent, Word::Untouched),
+            _ => {
+                let word = phase - 2;
+                let next = phase + 1;
+                if word < self.n {
+                    self.writer_at(next, Happened::NoEvent, Word::Stored(word))
+                } else {
+                    let past = word - self.n;
+                    match past {
+                        0 => self.slot_index()
+                            .writer_at(next, Happened::NoEvent, Word::Untouched),
+                        _ => self.latest_pair()
+                            .writer_at(0, Happened::WriteReturned, Word::Untouched),
+                    }
+                }
+            }
+        }
+    }
+
+    // One move of the reader. STATE as for the writer.
+    pub fn reader_move(self) -> Step
+        ensures { λ r. ⌜ r ≡ step simpson Reader self ⌝ }
+    {
+        if !self.sound() {
+            return self.refused();
+        }
+        let phase = self.reader.phase;
+        match phase {
+            0 => self.pair_latest()
+                .reader_at(1, Happened::ReadCalled, Word::Untouched),
+            1 => self.reading_pair()
+                .reader_at(2, Happened::NoEvent, Word::Untouched),
+            2 => self.index_slot()
+                .reader_at(3, Happened::NoEvent, Word::Untouched),
+            _ => {
+                let word = phase - 3;
+                let next = phase + 1;
+                if word + 1 < self.n {
+                    self.reader_at(next, Happened::NoEvent, Word::Loaded(word))
+                } else {
+                    self.reader_at(0, Happened::ReadReturned, Word::Loaded(word))
+                }
+            }
         }
     }
 }

@@ -3,24 +3,23 @@
 use Prim.Native.Nat.{ℕ, _+_}
 use mathlib.Core.Path.{_≡_, refl, sym, _∙_}
 use mathlib.Core.Bool.{Bool, true, false, cond}
-use mathlib.Core.List.{List}
+use mathlib.Core.List.{List, []}
 use lib.ListN.{length, take}
 use lib.Dec.{eqb}
 use borrow.Author.Tests.{ne-eqb}
 use Rattle.refusals.specs.declared.Fault.the-variants as fault
 use Rattle.refusals.specs.declared.Answer.the-variants.{Accepted, Refused}
 use Rattle.refusals.proofs.Apart.{apart}
-use Rattle.items.specs.Item.{isWidth}
-use Rattle.control.specs.declared.Side.the-variants.{Writer, Reader}
+use Rattle.items.specs.Item.{isWidth, eight}
 use Rattle.control.specs.declared.Happened.{Happened}
 use Rattle.control.specs.declared.Happened.the-variants.{NoEvent, WriteCalled, WriteReturned, ReadCalled, ReadReturned}
-use Rattle.control.specs.Simpson.{Procedures, simpson}
+use Rattle.control.specs.Simpson.{Writer, Reader, Procedures, simpson}
 use Rattle.control.specs.Step.{sound, step}
 use Rattle.control.proofs.Always.{by-cases, always-moves, else-refused, stays-sound, reader-kept, writer-kept}
 use Rattle.control.proofs.Moves.{idle-sound}
 use Rattle.machine.specs.declared.State.{State}
 use Rattle.machine.specs.declared.Moved.{Moved}
-use Rattle.machine.specs.Machine.{firstWords, noItem, takenIn, writerMove, readerMove, fresh}
+use Rattle.machine.specs.Machine.{firstWords, takenIn, writerMove, readerMove, fresh}
 
 -- Each side can always move (001's asynchrony): a sound state is never refused, and stays sound.
 pub writer-always : (ps : Procedures) (s : State) (v : List ℕ) → sound ps (s .control) ≡ true
@@ -35,7 +34,7 @@ reader-always ps s h = (always-moves ps Reader (s .control) h, stays-sound ps Re
 
 -- "STATE returns the state that came in, with no event."
 abbrev pub refusedMove : State → Moved
-refusedMove s = record { answer = Refused fault.State 0; happened = NoEvent; item = noItem; state = s }
+refusedMove s = record { answer = Refused fault.State 0; happened = NoEvent; item = eight []; state = s }
 
 pub writer-refused : (ps : Procedures) (s : State) (v : List ℕ) → sound ps (s .control) ≡ false → writerMove ps s v ≡ refusedMove s
 unfolding writerMove

@@ -3,11 +3,9 @@
 use Prim.Native.Nat.{ℕ, zero, suc}
 use mathlib.Core.List.{List, [], _∷_, _++_}
 use lib.ListN.{getD, take, replicate}
-use Rattle.control.specs.declared.Side.{Side}
-use Rattle.control.specs.declared.Side.the-variants.{Writer, Reader}
 use Rattle.control.specs.declared.Happened.{Happened}
 use Rattle.control.specs.declared.Happened.the-variants.{NoEvent, WriteCalled, WriteReturned, ReadCalled, ReadReturned}
-use Rattle.control.specs.Simpson.{Procedures}
+use Rattle.control.specs.Simpson.{Side, Writer, Reader, Procedures}
 use Rattle.machine.specs.declared.State.{State}
 use Rattle.machine.specs.Machine.{writerMove, readerMove, fresh}
 

@@ -16,10 +16,9 @@ use Rattle.refusals.proofs.Lists.{sets-append}
 use Rattle.numbers.proofs.Bounds.{between-in, between-below, between-above}
 use Rattle.items.specs.Item.{eight}
 use Rattle.control.specs.declared.Control.{Control}
-use Rattle.control.specs.declared.Side.{Side}
 use Rattle.control.specs.declared.Word.{Word}
 use Rattle.control.specs.declared.Word.the-variants.{Untouched, Stored, Loaded}
-use Rattle.control.specs.Simpson.{simpson}
+use Rattle.control.specs.Simpson.{Side, simpson}
 use Rattle.control.specs.Step.{sound, step, WordBelow}
 use Rattle.control.proofs.Sound.{sound-is}
 use Rattle.control.proofs.Always.{by-cases, else-refused}

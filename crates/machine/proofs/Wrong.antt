@@ -3,16 +3,17 @@
 use mathlib.Core.Path.{_≡_, refl}
 use mathlib.Core.Bool.{not}
 use mathlib.Core.List.{[], _∷_, _++_}
-use Rattle.control.specs.declared.Side.the-variants.{Writer, Reader}
-use Rattle.control.specs.declared.Move.the-variants.{PairNotReading, IndexNotSlot, Store, SetSlot, SetLatest, Load}
-use Rattle.control.specs.Simpson.{Action, Procedures, slotAt, withLatest, withIndex, noWord, act, simpson, eachWord}
+use Rattle.control.specs.Simpson.{slotAt, setPair, setIndex, setSlot, setLatest, store, load, eachWord, Writer, Reader, Procedures, simpson}
 use Rattle.control.specs.Step.{sound, step}
 use Rattle.machine.specs.Machine.{writerMove, readerMove, inAllFour, fresh}
 use Rattle.machine.proofs.Runs.{CW, RW, CR, RR, all, run, w, r}
 
 -- latest set before slot[pair]
 abbrev pub latestFirst : Procedures
-latestFirst Writer n = act PairNotReading ∷ act IndexNotSlot ∷ (eachWord Store 0 n ++ (act SetLatest ∷ act SetSlot ∷ []))
+latestFirst Writer n =
+    setPair (λ b c. not (b .reading))
+    ∷ setIndex (λ b c. not (slotAt b (c .pair)))
+    ∷ (eachWord store 0 n ++ (setLatest (λ b c. c .pair) ∷ setSlot (λ b c. c .index) ∷ []))
 latestFirst Reader n = simpson Reader n
 
 -- A read returns 7, and the next one, called after that, the initial item, though write 1 had returned long before.
@@ -21,12 +22,12 @@ pub latest-first-goes-back : run latestFirst 1 (all 7 ∷ all 8 ∷ []) (w 5 (r 
 unfolding simpson eachWord sound step writerMove readerMove inAllFour fresh
 latest-first-goes-back = refl
 
--- The writer looks at reading again in its second move: index := not slot[not reading].
-abbrev indexAgain : Action
-indexAgain b c = noWord b (withIndex c (not (slotAt b (not (b .reading)))))
-
+-- The writer looks at reading again in its second move.
 abbrev pub readingInSecond : Procedures
-readingInSecond Writer n = act PairNotReading ∷ indexAgain ∷ (eachWord Store 0 n ++ (act SetSlot ∷ act SetLatest ∷ []))
+readingInSecond Writer n =
+    setPair (λ b c. not (b .reading))
+    ∷ setIndex (λ b c. not (slotAt b (not (b .reading))))
+    ∷ (eachWord store 0 n ++ (setSlot (λ b c. c .index) ∷ setLatest (λ b c. c .pair) ∷ []))
 readingInSecond Reader n = simpson Reader n
 
 -- A read returns one word of write 2 and one of write 1.
@@ -38,7 +39,9 @@ reading-in-second-tears = refl
 -- The writer looks at reading again before slot[pair] is set.
 abbrev pub readingAgain : Procedures
 readingAgain Writer n =
-    act PairNotReading ∷ act IndexNotSlot ∷ (eachWord Store 0 n ++ (act PairNotReading ∷ act SetSlot ∷ act SetLatest ∷ []))
+    setPair (λ b c. not (b .reading))
+    ∷ setIndex (λ b c. not (slotAt b (c .pair)))
+    ∷ (eachWord store 0 n ++ (setPair (λ b c. not (b .reading)) ∷ setSlot (λ b c. c .index) ∷ setLatest (λ b c. c .pair) ∷ []))
 readingAgain Reader n = simpson Reader n
 
 -- Writes 1 and 2 have returned, a read returns 7, and the next one the initial item.
@@ -49,9 +52,8 @@ reading-again-goes-back = refl
 
 -- Two slots and the bit latest: index := not latest, words, latest := index; and index := latest, words.
 abbrev pub twoSlots : Procedures
-twoSlots Writer n =
-    (λ b c. noWord b (withIndex c (not (b .latest)))) ∷ (eachWord Store 0 n ++ ((λ b c. noWord (withLatest b (c .index)) c) ∷ []))
-twoSlots Reader n = (λ b c. noWord b (withIndex c (b .latest))) ∷ eachWord Load 0 n
+twoSlots Writer n = setIndex (λ b c. not (b .latest)) ∷ (eachWord store 0 n ++ (setLatest (λ b c. c .index) ∷ []))
+twoSlots Reader n = setIndex (λ b c. b .latest) ∷ eachWord load 0 n
 
 -- A read returns one word of the initial item and one of write 2.
 pub two-slots-tear : run twoSlots 2 (all 7 ∷ all 8 ∷ []) (r 2 (w 7 (r 1 [])))

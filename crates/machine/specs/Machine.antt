@@ -9,12 +9,11 @@ use Rattle.items.specs.Item.{isWidth, eight}
 use Rattle.control.specs.declared.Core.{Core}
 use Rattle.control.specs.declared.Control.{Control}
 use Rattle.control.specs.declared.Step.{Step}
-use Rattle.control.specs.declared.Side.the-variants.{Writer, Reader}
 use Rattle.control.specs.declared.Word.{Word}
 use Rattle.control.specs.declared.Word.the-variants.{Untouched, Stored, Loaded}
 use Rattle.control.specs.declared.Happened.{Happened}
 use Rattle.control.specs.declared.Happened.the-variants.{NoEvent, WriteCalled, WriteReturned, ReadCalled, ReadReturned}
-use Rattle.control.specs.Simpson.{Procedures}
+use Rattle.control.specs.Simpson.{Writer, Reader, Procedures}
 use Rattle.control.specs.Step.{step, idle}
 use Rattle.machine.specs.declared.State.{State}
 use Rattle.machine.specs.declared.Moved.{Moved}
@@ -23,9 +22,6 @@ use Rattle.machine.specs.declared.Started.{Started}
 -- "words past n are ignored and count as 0"
 abbrev pub firstWords : ℕ → List ℕ → List ℕ
 firstWords n v = eight (take n v)
-
-abbrev pub noItem : List ℕ
-noItem = eight []
 
 -- Where word k of the slot (pair, index) stands.
 abbrev pub place : Bool → Bool → ℕ → ℕ
@@ -56,10 +52,10 @@ takenIn ReadReturned n v item = item
 
 -- "CW (write called, with its item), RW (write returned), CR (read called), RR (read returned, with its item)"
 abbrev pub shown : Happened → ℕ → List ℕ → List ℕ
-shown NoEvent n item = noItem
+shown NoEvent n item = eight []
 shown WriteCalled n item = item
-shown WriteReturned n item = noItem
-shown ReadCalled n item = noItem
+shown WriteReturned n item = eight []
+shown ReadCalled n item = eight []
 shown ReadReturned n item = firstWords n item
 
 -- The state after a move of the writer, and after one of the reader.
@@ -90,7 +86,7 @@ readerMove ps s =
 
 -- "all bits 0, both cores idle, .. all locals 0"
 abbrev pub idleState : ℕ → List ℕ → State
-idleState n slots = record { control = idle n; slots = slots; taken = noItem; loaded = noItem }
+idleState n slots = record { control = idle n; slots = slots; taken = eight []; loaded = eight [] }
 
 -- "all four slots hold the initial item"
 unfoldable pub inAllFour : List ℕ → List ℕ

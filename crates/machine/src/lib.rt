@@ -2,7 +2,6 @@
 use control::Control;
 use control::Core;
 use control::Happened;
-use control::Side;
 use control::Word;
 use refusals::Answer;
 use refusals::Fault;
@@ -190,7 +189,7 @@ impl State {
     {
         let control = self.control;
         let n = control.n;
-        let step = control.step(Side::Writer);
+        let step = control.writer_move();
         let answer = step.answer;
         let happened = step.happened;
         let word = step.word;
@@ -227,7 +226,7 @@ impl State {
     {
         let control = self.control;
         let n = control.n;
-        let step = control.step(Side::Reader);
+        let step = control.reader_move();
         let answer = step.answer;
         let happened = step.happened;
         let word = step.word;

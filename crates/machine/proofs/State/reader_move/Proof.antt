@@ -6,11 +6,11 @@ use borrow.Author.Needs.{needs}
 use Rattle.machine.proofs.State.reader_move.Statement.{statement}
 use Rattle.machine.proofs.State.reader_move.Tie as tie
 
-step-requires : tie.Need-step-requires
-step-requires c κs = search needs
+reader-move-requires : tie.Need-reader-move-requires
+reader-move-requires c κs = search needs
 
 loaded-after-requires : tie.Need-loaded-after-requires
-loaded-after-requires c κs = rw (c .before .before .before .step .ensures) (step-below _ _)
+loaded-after-requires c κs = rw (c .before .before .before .reader-move .ensures) (step-below _ _)
 
 shown-requires : tie.Need-shown-requires
 shown-requires c κs = search needs
@@ -20,9 +20,9 @@ after-reader-requires c κs = search needs
 
 returns : tie.Need-returns
 unfolding readerMove
-returns c = rw (c .after-reader .ensures, c .before .shown .ensures, c .before .before .loaded-after .ensures, c .before .before .before .before .before .before .step .ensures)
+returns c = rw (c .after-reader .ensures, c .before .shown .ensures, c .before .before .loaded-after .ensures, c .before .before .before .before .before .before .reader-move .ensures)
 
 pub reader-move-spec : {M : Type 1} → statement M
 reader-move-spec =
     tie.close
-    (tie.spec step-requires loaded-after-requires shown-requires after-reader-requires returns)
+    (tie.spec reader-move-requires loaded-after-requires shown-requires after-reader-requires returns)

@@ -6,14 +6,14 @@ use borrow.Author.Needs.{needs}
 use Rattle.machine.proofs.State.writer_move.Statement.{statement}
 use Rattle.machine.proofs.State.writer_move.Tie as tie
 
-step-requires : tie.Need-step-requires
-step-requires c κs = search needs
+writer-move-requires : tie.Need-writer-move-requires
+writer-move-requires c κs = search needs
 
 taken-in-requires : tie.Need-taken-in-requires
 taken-in-requires c κs = search needs
 
 slots-after-requires : tie.Need-slots-after-requires
-slots-after-requires c κs = rw (c .before .before .before .before .step .ensures) (step-below _ _)
+slots-after-requires c κs = rw (c .before .before .before .before .writer-move .ensures) (step-below _ _)
 
 shown-requires : tie.Need-shown-requires
 shown-requires c κs = search needs
@@ -23,13 +23,13 @@ after-writer-requires c κs = search needs
 
 returns : tie.Need-returns
 unfolding writerMove
-returns c = rw (c .after-writer .ensures, c .before .shown .ensures, c .before .before .slots-after .ensures, c .before .before .before .before .taken-in .ensures, c .before .before .before .before .before .before .before .step .ensures)
+returns c = rw (c .after-writer .ensures, c .before .shown .ensures, c .before .before .slots-after .ensures, c .before .before .before .before .taken-in .ensures, c .before .before .before .before .before .before .before .writer-move .ensures)
 
 pub writer-move-spec : {M : Type 1} → statement M
 writer-move-spec =
     tie.close
     (tie.spec
-    step-requires
+    writer-move-requires
     taken-in-requires
     slots-after-requires
     shown-requires
