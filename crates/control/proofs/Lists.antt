@@ -1,6 +1,6 @@
 -- The lists of moves, for any n: how long they are, and which action stands at each phase.
 -- Assumes nothing.
-use Prim.Native.Nat.{ℕ, zero, suc, _+_, _≤_, _<_}
+use Prim.Native.Nat.{ℕ, zero, suc, _+_, _<_}
 use native.Mathlib.Nat.{add-zero, add-suc, suc-add, le-of-suc-le-suc, not-suc-le-zero}
 use native.Mathlib.Omega.{arith}
 use mathlib.Core.Path.{_≡_, refl, sym, ap, subst, _∙_}
@@ -8,12 +8,7 @@ use mathlib.Core.Bool.{not}
 use mathlib.Core.List.{List, [], _∷_, _++_, append-nil}
 use lib.ListN.{length, getD, length-append}
 use lib.Seq.{getD-append-add}
-use Rattle.control.specs.declared.Word.the-variants.{Untouched}
-use Rattle.control.specs.Simpson.{Action, slotAt, setPair, setIndex, setSlot, setLatest, setReading, store, load, eachWord, Side, Writer, Reader, simpson}
-
--- No action: where a list of moves has none.
-abbrev pub stay : Action
-stay b x = record { bits = b; core = x; word = Untouched }
+use Rattle.control.specs.Simpson.{Action, stay, slotAt, setPair, setIndex, setSlot, setLatest, setReading, store, load, eachWord, Side, Writer, Reader, simpson}
 
 -- A move for each word, and what comes after them.
 module _ (f : ℕ → Action) where
@@ -47,41 +42,42 @@ read-length n = simp each-length (omega arith)
 abbrev pub actionAt : Side → ℕ → ℕ → Action
 actionAt side n p = getD (simpson side n) p stay
 
-module _ (n p : ℕ) where
-  pub writing-pair : p ≡ 0 → actionAt Writer n p ≡ setPair (λ b c. not (b .reading))
-  unfolding simpson
-  writing-pair e = rw e
+-- 01's numbered list of a write's moves, and its list of a read's, by the phase at which each is made.
+pub writing-pair : (n p : ℕ) → p ≡ 0 → actionAt Writer n p ≡ setPair (λ b c. not (b .reading))
+unfolding simpson
+writing-pair n p e = rw e
 
-  pub writing-index : p ≡ 1 → actionAt Writer n p ≡ setIndex (λ b c. not (slotAt b (c .pair)))
-  unfolding simpson
-  writing-index e = rw e
+pub writing-index : (n p : ℕ) → p ≡ 1 → actionAt Writer n p ≡ setIndex (λ b c. not (slotAt b (c .pair)))
+unfolding simpson
+writing-index n p e = rw e
 
-  pub writing-word : (k : ℕ) → p ≡ suc (suc k) → k < n → actionAt Writer n p ≡ store k
-  unfolding simpson
-  writing-word k e h = rw e (each-at store 0 n k _ h ∙ ap store (omega arith))
+pub writing-word : (n p k : ℕ) → p ≡ suc (suc k) → k < n → actionAt Writer n p ≡ store k
+unfolding simpson
+writing-word n p k e h = rw e (each-at store 0 n k _ h ∙ ap store (omega arith))
 
-  writing-past : (j : ℕ) → p ≡ suc (suc (n + j)) → actionAt Writer n p ≡ getD (setSlot (λ b c. c .index) ∷ setLatest (λ b c. c .pair) ∷ []) j stay
-  unfolding simpson
-  writing-past j e = rw e (each-past store 0 n j _)
+writing-past : (n p j : ℕ) → p ≡ suc (suc (n + j))
+    → actionAt Writer n p ≡ getD (setSlot (λ b c. c .index) ∷ setLatest (λ b c. c .pair) ∷ []) j stay
+unfolding simpson
+writing-past n p j e = rw e (each-past store 0 n j _)
 
-  pub writing-slot : p ≡ suc (suc n) → actionAt Writer n p ≡ setSlot (λ b c. c .index)
-  writing-slot e = writing-past 0 (omega arith)
+pub writing-slot : (n p : ℕ) → p ≡ suc (suc n) → actionAt Writer n p ≡ setSlot (λ b c. c .index)
+writing-slot n p e = writing-past n p 0 (omega arith)
 
-  pub writing-latest : p ≡ suc (suc (suc n)) → actionAt Writer n p ≡ setLatest (λ b c. c .pair)
-  writing-latest e = writing-past 1 (omega arith)
+pub writing-latest : (n p : ℕ) → p ≡ suc (suc (suc n)) → actionAt Writer n p ≡ setLatest (λ b c. c .pair)
+writing-latest n p e = writing-past n p 1 (omega arith)
 
-  pub reading-pair : p ≡ 0 → actionAt Reader n p ≡ setPair (λ b c. b .latest)
-  unfolding simpson
-  reading-pair e = rw e
+pub reading-pair : (n p : ℕ) → p ≡ 0 → actionAt Reader n p ≡ setPair (λ b c. b .latest)
+unfolding simpson
+reading-pair n p e = rw e
 
-  pub reading-announce : p ≡ 1 → actionAt Reader n p ≡ setReading (λ b c. c .pair)
-  unfolding simpson
-  reading-announce e = rw e
+pub reading-announce : (n p : ℕ) → p ≡ 1 → actionAt Reader n p ≡ setReading (λ b c. c .pair)
+unfolding simpson
+reading-announce n p e = rw e
 
-  pub reading-index : p ≡ 2 → actionAt Reader n p ≡ setIndex (λ b c. slotAt b (c .pair))
-  unfolding simpson
-  reading-index e = rw e
+pub reading-index : (n p : ℕ) → p ≡ 2 → actionAt Reader n p ≡ setIndex (λ b c. slotAt b (c .pair))
+unfolding simpson
+reading-index n p e = rw e
 
-  pub reading-word : (k : ℕ) → p ≡ suc (suc (suc k)) → k < n → actionAt Reader n p ≡ load k
-  unfolding simpson
-  reading-word k e h = rw e (rw (← append-nil (eachWord load 0 n)) (each-at load 0 n k [] h ∙ ap load (omega arith)))
+pub reading-word : (n p k : ℕ) → p ≡ suc (suc (suc k)) → k < n → actionAt Reader n p ≡ load k
+unfolding simpson
+reading-word n p k e h = rw e (rw (← append-nil (eachWord load 0 n)) (each-at load 0 n k [] h ∙ ap load (omega arith)))

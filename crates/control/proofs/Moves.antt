@@ -11,9 +11,9 @@ use Rattle.items.specs.Item.{isWidth}
 use Rattle.control.specs.declared.Bits.{Bits}
 use Rattle.control.specs.declared.Core.{Core}
 use Rattle.control.specs.declared.Control.{Control}
-use Rattle.control.specs.Simpson.{Action, slotAt, setPair, setIndex, setSlot, setLatest, setReading, store, load, eachWord, Side, Writer, Reader, simpson}
+use Rattle.control.specs.Simpson.{Action, stay, slotAt, setPair, setIndex, setSlot, setLatest, setReading, store, load, eachWord, Side, Writer, Reader, simpson}
 use Rattle.control.specs.Step.{coreOf, sound, step, idle, WordBelow}
-use Rattle.control.proofs.Lists.{stay, actionAt}
+use Rattle.control.proofs.Lists.{actionAt}
 use Rattle.control.proofs.Sound.{sound-yes}
 use Rattle.control.proofs.Steps.{step-at}
 use Rattle.control.proofs.Always.{by-cases, else-refused}
@@ -71,24 +71,29 @@ KeepsReading a = (b : Bits) (c : Core) → a b c .bits .reading ≡ b .reading
 pub write-keeps-reading : (c : Control) → step simpson Writer c .control .bits .reading ≡ c .bits .reading
 write-keeps-reading c =
     let same : KeepsReading (actionAt Writer (c .n) (c .writer .phase)) =
-    writing-all KeepsReading (λ b c. refl) (c .n) (c .writer .phase) (λ b c. refl) (λ b c. refl) (λ k h b c. refl) (λ b c. refl)
-    (λ b c. refl) in
-    by-cases (sound simpson c) (λ e. rw (step-at Writer c _ e refl) (same (c .bits) (c .writer))) (λ e. rw (else-refused simpson Writer c e))
+    writing-all KeepsReading (λ b x. refl) (c .n) (c .writer .phase) (λ b x. refl) (λ b x. refl) (λ k h b x. refl) (λ b x. refl)
+    (λ b x. refl) in
+    by-cases (sound simpson c) (λ e. rw (step-at Writer c _ e refl) (same (c .bits) (c .writer)))
+    (λ e. rw (else-refused simpson Writer c e))
 
 pub record SameWritten (a b : Bits) : Type 0 where
   pub latest : a .latest ≡ b .latest
   pub slot0 : a .slot0 ≡ b .slot0
   pub slot1 : a .slot1 ≡ b .slot1
 
+kept : {a b : Bits} → a .latest ≡ b .latest → a .slot0 ≡ b .slot0 → a .slot1 ≡ b .slot1 → SameWritten a b
+kept l s t = record { latest = l; slot0 = s; slot1 = t }
+
 abbrev KeepsWritten : Action → Type 0
 KeepsWritten a = (b : Bits) (c : Core) → SameWritten (a b c .bits) b
 
 pub read-keeps-written : (c : Control) → SameWritten (step simpson Reader c .control .bits) (c .bits)
 read-keeps-written c =
-    let kept : (b : Bits) → SameWritten b b = λ b. record { latest = refl; slot0 = refl; slot1 = refl } in
     let same : KeepsWritten (actionAt Reader (c .n) (c .reader .phase)) =
-    reading-all KeepsWritten (λ b c. kept b) (c .n) (c .reader .phase) (λ b c. kept b) (λ b c. record { latest = refl; slot0 = refl; slot1 = refl }) (λ b c. kept b) (λ k h b c. kept b) in
-    by-cases (sound simpson c) (λ e. rw (step-at Reader c _ e refl) (same (c .bits) (c .reader))) (λ e. rw (else-refused simpson Reader c e) (kept (c .bits)))
+    reading-all KeepsWritten (λ b x. kept refl refl refl) (c .n) (c .reader .phase) (λ b x. kept refl refl refl)
+    (λ b x. kept refl refl refl) (λ b x. kept refl refl refl) (λ k h b x. kept refl refl refl) in
+    by-cases (sound simpson c) (λ e. rw (step-at Reader c _ e refl) (same (c .bits) (c .reader)))
+    (λ e. rw (else-refused simpson Reader c e) (kept refl refl refl))
 
 -- The idle control part of a width from 1 to 8 is sound.
 pub idle-sound : (n : ℕ) → isWidth n ≡ true → sound simpson (idle n) ≡ true

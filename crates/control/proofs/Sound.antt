@@ -1,19 +1,18 @@
 -- What a sound control part is, in 01's numbers ("Refusal numbers", STATE).
 -- Assumes nothing.
-use Prim.Native.Nat.{ℕ, _+_, _≤_, _<_}
+use Prim.Native.Nat.{_+_, _≤_, _<_}
 use native.Mathlib.Omega.{arith}
 use mathlib.Core.Path.{_≡_, refl, sym, _∙_}
 use mathlib.Core.Logic.{_↔_}
 use mathlib.Core.Bool.{Bool, true, false, not, _&&_}
-use lib.ListN.{length}
 use lib.Dec.{ltb}
 use borrow.Author.Tests.{lt-ltb, le-ltb, ltb-true}
 use Rattle.refusals.proofs.Apart.{apart}
 use Rattle.numbers.proofs.Bounds.{between-in, between-true, and-both}
 use Rattle.items.specs.Item.{isWidth}
 use Rattle.control.specs.declared.Control.{Control}
-use Rattle.control.specs.Simpson.{Side, Writer, Reader, simpson}
-use Rattle.control.specs.Step.{coreOf, sound}
+use Rattle.control.specs.Simpson.{simpson}
+use Rattle.control.specs.Step.{sound}
 use Rattle.control.proofs.Lists.{write-length, read-length}
 
 -- No "width outside 1 to 8, writer phase above n+3 or reader phase above n+2".
@@ -71,8 +70,3 @@ tested-sound c false e h = apart cc
 pub tested-unsound : (c : Control) (b : Bool) → b ≡ sound simpson c → not b ≡ true → sound simpson c ≡ false
 tested-unsound c true e h = apart cc
 tested-unsound c false e h = sym e
-
--- A sound phase is one that its call has.
-pub in-call : (side : Side) (c : Control) → sound simpson c ≡ true → coreOf side c .phase < length (simpson side (c .n))
-in-call Writer c h = let s = sound-is c h in rw write-length (omega (arith, s .writing))
-in-call Reader c h = let s = sound-is c h in rw read-length (omega (arith, s .reading))

@@ -1,18 +1,16 @@
 -- What a step is, move by move: the nine moves of the two procedures, and a refused one.
 -- Assumes nothing.
-use Prim.Native.Nat.{ℕ, suc, _+_, _<_}
+use Prim.Native.Nat.{ℕ, _+_, _<_}
 use native.Mathlib.Omega.{arith}
-use mathlib.Core.Path.{_≡_, refl, sym, _∙_}
-use mathlib.Core.Bool.{true, false, not}
+use mathlib.Core.Path.{_≡_, sym, _∙_}
+use mathlib.Core.Bool.{true}
 use lib.ListN.{length}
 use borrow.Author.Tests.{eq-eqb, ne-eqb}
 use Rattle.control.specs.declared.Control.{Control}
-use Rattle.control.specs.declared.Word.the-variants.{Untouched, Stored, Loaded}
 use Rattle.control.specs.declared.Happened.the-variants.{NoEvent, WriteCalled, WriteReturned, ReadCalled, ReadReturned}
-use Rattle.control.specs.Simpson.{Action, slotAt, setPair, setIndex, setSlot, setLatest, setReading, store, load, Side, Writer, Reader, simpson}
+use Rattle.control.specs.Simpson.{Action, Side, Writer, Reader, simpson}
 use Rattle.control.specs.Step.{coreOf, does, atPhase, sound, accepted, refused, stepped, step}
-use Rattle.control.proofs.Sound.{sound-is}
-use Rattle.control.proofs.Lists.{actionAt, write-length, read-length, writing-pair, writing-index, writing-word, writing-slot, writing-latest, reading-pair, reading-announce, reading-index, reading-word}
+use Rattle.control.proofs.Lists.{actionAt, write-length, read-length}
 
 -- A sound step is the action at the mover's phase.
 pub step-at : (side : Side) (c : Control) (a : Action) → sound simpson c ≡ true → actionAt side (c .n) (coreOf side c .phase) ≡ a
@@ -40,7 +38,8 @@ module _ (c : Control) {a : Action} (h : sound simpson c ≡ true) (e : actionAt
   write-last f =
       let busy : c .writer .phase ≡ 0 → ⊥ = λ zero. omega arith in
       let all : c .writer .phase + 1 ≡ length (simpson Writer (c .n)) = omega (arith, write-length (c .n)) in
-      sym (step-at Writer c a h e ∙ rw (ne-eqb (c .writer .phase) 0 busy, eq-eqb (c .writer .phase + 1) (length (simpson Writer (c .n))) all))
+      let done = eq-eqb (c .writer .phase + 1) (length (simpson Writer (c .n))) all in
+      sym (step-at Writer c a h e ∙ rw (ne-eqb (c .writer .phase) 0 busy, done))
 
 -- The first move of a read, one between, and the last.
 module _ (c : Control) {a : Action} (h : sound simpson c ≡ true) (e : actionAt Reader (c .n) (c .reader .phase) ≡ a) where
@@ -62,4 +61,5 @@ module _ (c : Control) {a : Action} (h : sound simpson c ≡ true) (e : actionAt
   read-last f =
       let busy : c .reader .phase ≡ 0 → ⊥ = λ zero. omega arith in
       let all : c .reader .phase + 1 ≡ length (simpson Reader (c .n)) = omega (arith, read-length (c .n)) in
-      sym (step-at Reader c a h e ∙ rw (ne-eqb (c .reader .phase) 0 busy, eq-eqb (c .reader .phase + 1) (length (simpson Reader (c .n))) all))
+      let done = eq-eqb (c .reader .phase + 1) (length (simpson Reader (c .n))) all in
+      sym (step-at Reader c a h e ∙ rw (ne-eqb (c .reader .phase) 0 busy, done))

@@ -16,28 +16,32 @@ pub record Acted : Type 0 where
 abbrev pub Action : Type 0
 Action = Bits → Core → Acted
 
+-- No action: bits and locals as they are, no word.
+abbrev pub stay : Action
+stay b c = record { bits = b; core = c; word = Untouched }
+
 -- slot[pair]
 abbrev pub slotAt : Bits → Bool → Bool
 slotAt b pair = cond pair (b .slot1) (b .slot0)
 
 -- pair := x, index := x, slot[pair] := x, latest := x, reading := x
 abbrev pub setPair : (Bits → Core → Bool) → Action
-setPair x b c = record { bits = b; core = record { phase = c .phase; pair = x b c; index = c .index }; word = Untouched }
+setPair x b c = stay b (record { phase = c .phase; pair = x b c; index = c .index })
 
 abbrev pub setIndex : (Bits → Core → Bool) → Action
-setIndex x b c = record { bits = b; core = record { phase = c .phase; pair = c .pair; index = x b c }; word = Untouched }
+setIndex x b c = stay b (record { phase = c .phase; pair = c .pair; index = x b c })
 
 abbrev pub setSlot : (Bits → Core → Bool) → Action
 setSlot x b c =
     let bit0 = cond (c .pair) (b .slot0) (x b c) in
     let bit1 = cond (c .pair) (x b c) (b .slot1) in
-    record { bits = record { latest = b .latest; reading = b .reading; slot0 = bit0; slot1 = bit1 }; core = c; word = Untouched }
+    stay (record { latest = b .latest; reading = b .reading; slot0 = bit0; slot1 = bit1 }) c
 
 abbrev pub setLatest : (Bits → Core → Bool) → Action
-setLatest x b c = record { bits = record { latest = x b c; reading = b .reading; slot0 = b .slot0; slot1 = b .slot1 }; core = c; word = Untouched }
+setLatest x b c = stay (record { latest = x b c; reading = b .reading; slot0 = b .slot0; slot1 = b .slot1 }) c
 
 abbrev pub setReading : (Bits → Core → Bool) → Action
-setReading x b c = record { bits = record { latest = b .latest; reading = x b c; slot0 = b .slot0; slot1 = b .slot1 }; core = c; word = Untouched }
+setReading x b c = stay (record { latest = b .latest; reading = x b c; slot0 = b .slot0; slot1 = b .slot1 }) c
 
 -- Word k of the mover's item is stored into the slot (pair, index), or loaded from it.
 abbrev pub store : ℕ → Action

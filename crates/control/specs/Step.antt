@@ -15,7 +15,7 @@ use Rattle.control.specs.declared.Word.the-variants.{Untouched, Stored, 
 use Rattle.control.specs.declared.Happened.{Happened}
 use Rattle.control.specs.declared.Happened.the-variants.{NoEvent, WriteCalled, WriteReturned, ReadCalled, ReadReturned}
 use Rattle.control.specs.declared.Step.{Step}
-use Rattle.control.specs.Simpson.{Action, Side, Writer, Reader, Procedures}
+use Rattle.control.specs.Simpson.{Action, stay, Side, Writer, Reader, Procedures}
 
 -- "all bits 0, both cores idle, .. all locals 0"
 abbrev pub idle : ℕ → Control
@@ -64,14 +64,12 @@ refused c = record { answer = Refused State 0; happened = NoEvent; word = Untouc
 abbrev pub stepped : Side → ℕ → Action → Control → Step
 stepped side m action c =
     let p = coreOf side c .phase in
-    let word = action (c .bits) (coreOf side c) .word in
-    accepted (event side m p) word (atPhase side (counted m p) (does side action c))
+    accepted (event side m p) (action (c .bits) (coreOf side c) .word) (atPhase side (counted m p) (does side action c))
 
 -- A move: the action at the mover's phase.
 unfoldable pub step : Procedures → Side → Control → Step
 step ps side c =
     let moves = ps side (c .n) in
-    let stay : Action = λ b x. record { bits = b; core = x; word = Untouched } in
     cond (sound ps c) (stepped side (length moves) (getD moves (coreOf side c .phase) stay) c) (refused c)
 
 -- The word that is touched, where one is, stands below n.
@@ -85,14 +83,13 @@ touches Untouched = false
 touches (Stored k) = true
 touches (Loaded k) = true
 
-abbrev pub someOf : (Action → Bool) → List Action → Bool
-someOf f [] = false
-someOf f (a ∷ rest) = f a || someOf f rest
+abbrev pub onWord : Bits → Core → List Action → Bool
+onWord b x [] = false
+onWord b x (a ∷ rest) = touches (a b x .word) || onWord b x rest
 
 -- "A core occupies a slot from just after its first word move until just after its last word move": one is done, and one is to come.
 unfoldable pub occupies : Procedures → Side → Control → Bool
 occupies ps side c =
     let core = coreOf side c in
-    let word : Action → Bool = λ a. touches (a (c .bits) core .word) in
     let moves = ps side (c .n) in
-    someOf word (take (core .phase) moves) && someOf word (drop (core .phase) moves)
+    onWord (c .bits) core (take (core .phase) moves) && onWord (c .bits) core (drop (core .phase) moves)

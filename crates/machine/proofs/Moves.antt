@@ -1,7 +1,7 @@
 -- What holds of the moves of a whole machine, whatever its two procedures are; and that the fresh one is sound.
 -- Assumes nothing.
 use Prim.Native.Nat.{ℕ, _+_}
-use mathlib.Core.Path.{_≡_, refl, sym, _∙_}
+use mathlib.Core.Path.{_≡_, refl}
 use mathlib.Core.Bool.{Bool, true, false, cond}
 use mathlib.Core.List.{List, []}
 use lib.ListN.{length, take}
@@ -19,7 +19,7 @@ use Rattle.control.proofs.Always.{by-cases, always-moves, else-refused, stays-s
 use Rattle.control.proofs.Moves.{idle-sound}
 use Rattle.machine.specs.declared.State.{State}
 use Rattle.machine.specs.declared.Moved.{Moved}
-use Rattle.machine.specs.Machine.{firstWords, takenIn, writerMove, readerMove, fresh}
+use Rattle.machine.specs.Machine.{takenIn, writerMove, readerMove, fresh}
 
 -- Each side can always move (001's asynchrony): a sound state is never refused, and stays sound.
 pub writer-always : (ps : Procedures) (s : State) (v : List ℕ) → sound ps (s .control) ≡ true
@@ -65,7 +65,8 @@ taken-same WriteReturned n v w item other = refl
 taken-same ReadCalled n v w item other = refl
 taken-same ReadReturned n v w item other = refl
 
-pub item-ignored : (ps : Procedures) (s : State) (v w : List ℕ) → (s .control .writer .phase ≡ 0 → ⊥) → writerMove ps s v ≡ writerMove ps s w
+pub item-ignored : (ps : Procedures) (s : State) (v w : List ℕ) → (s .control .writer .phase ≡ 0 → ⊥)
+    → writerMove ps s v ≡ writerMove ps s w
 unfolding writerMove
 item-ignored ps s v w busy =
     rw (taken-same (step ps Writer (s .control) .happened) (s .control .n) v w (s .taken) (not-called ps s busy))

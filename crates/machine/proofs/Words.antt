@@ -1,15 +1,13 @@
 -- Laws of items and slots, for any n.
 -- Assumes nothing.
 use Prim.Native.Nat.{ℕ, zero, suc, _+_, _-_, _*_, _%_, _≤_, _<_}
-use native.Mathlib.Nat.{zero-add}
 use native.Mathlib.Numerals.{add-one}
 use native.Mathlib.Omega.{arith}
 use native.Mathlib.Decide.{decLe}
-use mathlib.Core.Path.{_≡_, refl, sym, ap, _∙_}
-use mathlib.Core.Bool.{Bool, true, false}
+use mathlib.Core.Path.{_≡_, ap, _∙_}
 use mathlib.Core.List.{List, [], _∷_, _++_}
 use lib.ListN.{length, getD, set, take, replicate, length-append, length-set, List·getD-append}
-use lib.Seq.{sets, take-all, take-suc, take-suc-set, getD-append-add, length-take-le}
+use lib.Seq.{take-all, take-suc, take-suc-set, getD-append-add, length-take-le}
 use Rattle.refusals.specs.declared.Fault.the-variants.{Width}
 use Rattle.refusals.specs.declared.Answer.the-variants.{Accepted, Refused}
 use Rattle.refusals.proofs.Lists.{sets-append}
@@ -111,7 +109,8 @@ module _ {w : Word} {k : ℕ} (h : WordBelow 8 w) where
   loaded-below e = rw e at h
 
 -- The start at a width, and at none.
-pub fresh-width : (n : ℕ) (v : List ℕ) → 1 ≤ n → n ≤ 8 → fresh n v ≡ record { answer = Accepted 0; state = idleState n (inAllFour (firstWords n v)) }
+pub fresh-width : (n : ℕ) (v : List ℕ) → 1 ≤ n → n ≤ 8
+    → fresh n v ≡ record { answer = Accepted 0; state = idleState n (inAllFour (firstWords n v)) }
 unfolding fresh
 fresh-width n v lo hi = rw (between-in 1 8 n lo hi)
 

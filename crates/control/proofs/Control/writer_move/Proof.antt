@@ -72,13 +72,17 @@ returns-4 c =
 
 returns-5 : tie.Need-returns-5
 returns-5 c =
-    let h = tested-sound _ _ (c .before .before .before .before .before .before .before .before .sound .ensures) (c .before .before .before .before .before .before .before .if1 .left) in
+    let h =
+    tested-sound _ _ (c .before .before .before .before .before .before .before .before .sound .ensures)
+    (c .before .before .before .before .before .before .before .if1 .left) in
     rw (c .writer-at4 .ensures, c .before .slot-index .ensures)
     (write-between _ h (writing-slot _ _ (omega arith)) _ refl (omega arith) (omega arith))
 
 returns-6 : tie.Need-returns-6
 returns-6 c =
-    let h = tested-sound _ _ (c .before .before .before .before .before .before .before .before .sound .ensures) (c .before .before .before .before .before .before .before .if1 .left) in
+    let h =
+    tested-sound _ _ (c .before .before .before .before .before .before .before .before .sound .ensures)
+    (c .before .before .before .before .before .before .before .if1 .left) in
     rw (c .writer-at5 .ensures, c .before .latest-pair .ensures)
     (write-last _ h (writing-latest _ _ (omega (arith, sound-is _ h))) (omega (arith, sound-is _ h)))
 

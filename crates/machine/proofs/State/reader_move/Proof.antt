@@ -20,7 +20,13 @@ after-reader-requires c κs = search needs
 
 returns : tie.Need-returns
 unfolding readerMove
-returns c = rw (c .after-reader .ensures, c .before .shown .ensures, c .before .before .loaded-after .ensures, c .before .before .before .before .before .before .reader-move .ensures)
+returns c =
+    rw (
+      c .after-reader .ensures,
+      c .before .shown .ensures,
+      c .before .before .loaded-after .ensures,
+      c .before .before .before .before .before .before .reader-move .ensures,
+    )
 
 pub reader-move-spec : {M : Type 1} → statement M
 reader-move-spec =

@@ -23,7 +23,14 @@ after-writer-requires c κs = search needs
 
 returns : tie.Need-returns
 unfolding writerMove
-returns c = rw (c .after-writer .ensures, c .before .shown .ensures, c .before .before .slots-after .ensures, c .before .before .before .before .taken-in .ensures, c .before .before .before .before .before .before .before .writer-move .ensures)
+returns c =
+    rw (
+      c .after-writer .ensures,
+      c .before .shown .ensures,
+      c .before .before .slots-after .ensures,
+      c .before .before .before .before .taken-in .ensures,
+      c .before .before .before .before .before .before .before .writer-move .ensures,
+    )
 
 pub writer-move-spec : {M : Type 1} → statement M
 writer-move-spec =
