@@ -2,10 +2,11 @@
 -- Assumes nothing.
 use Prim.Native.Nat.{ℕ, _+_, _<_}
 use native.Mathlib.Omega.{arith}
-use mathlib.Core.Path.{_≡_, refl}
-use mathlib.Core.Bool.{Bool, true, false, _&&_}
+use mathlib.Core.Path.{_≡_}
+use mathlib.Core.Bool.{true, false, _&&_}
 use lib.ListN.{length}
 use lib.Dec.{ltb, eqb}
+use borrow.Table.Steps.{cases}
 use borrow.Author.Tests.{lt-ltb, ltb-true, eqb-false}
 use Rattle.refusals.specs.declared.Answer.the-variants.{Accepted}
 use Rattle.numbers.proofs.Bounds.{and-both}
@@ -24,15 +25,10 @@ pub else-refused : (ps : Procedures) (side : Side) (c : Control) → sound ps c 
 unfolding step
 else-refused ps side c h = rw h
 
--- A test is true or false.
-pub by-cases : {A : Type 0} (b : Bool) → (b ≡ true → A) → (b ≡ false → A) → A
-by-cases true f g = f refl
-by-cases false f g = g refl
-
 counted-below : (p m : ℕ) → ltb p m ≡ true → ltb (counted m p) m ≡ true
 counted-below p m h =
     let lt : p < m = ltb-true p m h in
-    by-cases (eqb (p + 1) m) (λ e. rw e (lt-ltb 0 m (omega arith)))
+    cases (eqb (p + 1) m) (λ e. rw e (lt-ltb 0 m (omega arith)))
     (λ e. let ne : p + 1 ≡ m → ⊥ = eqb-false (p + 1) m e in rw e (lt-ltb (p + 1) m (omega arith)))
 
 -- A sound control part stays sound.
@@ -54,13 +50,13 @@ stays-sound ps Reader c h =
 -- A move keeps the width and the other core.
 pub width-kept : (ps : Procedures) (side : Side) (c : Control) → step ps side c .control .n ≡ c .n
 unfolding step
-width-kept ps Writer c = by-cases (sound ps c) (λ h. rw h) (λ h. rw h)
-width-kept ps Reader c = by-cases (sound ps c) (λ h. rw h) (λ h. rw h)
+width-kept ps Writer c = cases (sound ps c) (λ h. rw h) (λ h. rw h)
+width-kept ps Reader c = cases (sound ps c) (λ h. rw h) (λ h. rw h)
 
 pub reader-kept : (ps : Procedures) (c : Control) → step ps Writer c .control .reader ≡ c .reader
 unfolding step
-reader-kept ps c = by-cases (sound ps c) (λ h. rw h) (λ h. rw h)
+reader-kept ps c = cases (sound ps c) (λ h. rw h) (λ h. rw h)
 
 pub writer-kept : (ps : Procedures) (c : Control) → step ps Reader c .control .writer ≡ c .writer
 unfolding step
-writer-kept ps c = by-cases (sound ps c) (λ h. rw h) (λ h. rw h)
+writer-kept ps c = cases (sound ps c) (λ h. rw h) (λ h. rw h)

@@ -6,6 +6,7 @@ use mathlib.Core.Path.{_≡_, refl}
 use mathlib.Core.Bool.{true, not}
 use mathlib.Core.List.{List, [], _∷_, _++_, append-nil}
 use lib.ListN.{getD}
+use borrow.Table.Steps.{cases}
 use Rattle.numbers.proofs.Bounds.{between-true}
 use Rattle.items.specs.Item.{isWidth}
 use Rattle.control.specs.declared.Bits.{Bits}
@@ -16,7 +17,7 @@ use Rattle.control.specs.Step.{coreOf, sound, step, idle, WordBelow}
 use Rattle.control.proofs.Lists.{actionAt}
 use Rattle.control.proofs.Sound.{sound-yes}
 use Rattle.control.proofs.Steps.{step-at}
-use Rattle.control.proofs.Always.{by-cases, else-refused}
+use Rattle.control.proofs.Always.{else-refused}
 
 -- What holds of no action, of each action of a procedure, and of its action on every word below n, holds at every phase.
 module _ (P : Action → Type 0) (none : P stay) where
@@ -60,7 +61,7 @@ actions-within Reader n p = reading-all (Within n) (λ b c. tt) n p (λ b c. tt)
 
 pub word-below : (side : Side) (c : Control) → WordBelow (c .n) (step simpson side c .word)
 word-below side c =
-    by-cases (sound simpson c)
+    cases (sound simpson c)
     (λ e. rw (step-at side c _ e refl) (actions-within side (c .n) (coreOf side c .phase) (c .bits) (coreOf side c)))
     (λ e. rw (else-refused simpson side c e) tt)
 
@@ -73,7 +74,7 @@ write-keeps-reading c =
     let same : KeepsReading (actionAt Writer (c .n) (c .writer .phase)) =
     writing-all KeepsReading (λ b x. refl) (c .n) (c .writer .phase) (λ b x. refl) (λ b x. refl) (λ k h b x. refl) (λ b x. refl)
     (λ b x. refl) in
-    by-cases (sound simpson c) (λ e. rw (step-at Writer c _ e refl) (same (c .bits) (c .writer)))
+    cases (sound simpson c) (λ e. rw (step-at Writer c _ e refl) (same (c .bits) (c .writer)))
     (λ e. rw (else-refused simpson Writer c e))
 
 pub record SameWritten (a b : Bits) : Type 0 where
@@ -92,7 +93,7 @@ read-keeps-written c =
     let same : KeepsWritten (actionAt Reader (c .n) (c .reader .phase)) =
     reading-all KeepsWritten (λ b x. kept refl refl refl) (c .n) (c .reader .phase) (λ b x. kept refl refl refl)
     (λ b x. kept refl refl refl) (λ b x. kept refl refl refl) (λ k h b x. kept refl refl refl) in
-    by-cases (sound simpson c) (λ e. rw (step-at Reader c _ e refl) (same (c .bits) (c .reader)))
+    cases (sound simpson c) (λ e. rw (step-at Reader c _ e refl) (same (c .bits) (c .reader)))
     (λ e. rw (else-refused simpson Reader c e) (kept refl refl refl))
 
 -- The idle control part of a width from 1 to 8 is sound.

@@ -6,6 +6,7 @@ use mathlib.Core.Bool.{Bool, true, false, cond}
 use mathlib.Core.List.{List, []}
 use lib.ListN.{length, take}
 use lib.Dec.{eqb}
+use borrow.Table.Steps.{cases}
 use borrow.Author.Tests.{ne-eqb}
 use Rattle.refusals.specs.declared.Fault.the-variants as fault
 use Rattle.refusals.specs.declared.Answer.the-variants.{Accepted, Refused}
@@ -15,7 +16,7 @@ use Rattle.control.specs.declared.Happened.{Happened}
 use Rattle.control.specs.declared.Happened.the-variants.{NoEvent, WriteCalled, WriteReturned, ReadCalled, ReadReturned}
 use Rattle.control.specs.Simpson.{Writer, Reader, Procedures, simpson}
 use Rattle.control.specs.Step.{sound, step}
-use Rattle.control.proofs.Always.{by-cases, always-moves, else-refused, stays-sound, reader-kept, writer-kept}
+use Rattle.control.proofs.Always.{always-moves, else-refused, stays-sound, reader-kept, writer-kept}
 use Rattle.control.proofs.Moves.{idle-sound}
 use Rattle.machine.specs.declared.State.{State}
 use Rattle.machine.specs.declared.Moved.{Moved}
@@ -54,7 +55,7 @@ not-called : (ps : Procedures) (s : State) → (s .control .writer .phase ≡ 0 
 unfolding step
 not-called ps s busy e =
     let p = s .control .writer .phase in
-    by-cases (sound ps (s .control))
+    cases (sound ps (s .control))
     (λ h. uncalled (eqb p 0) (eqb (p + 1) (length (ps Writer (s .control .n)))) (ne-eqb p 0 busy) (rw h at e))
     (λ h. let f : NoEvent ≡ WriteCalled = rw h at e in apart cc)
 

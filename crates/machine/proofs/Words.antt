@@ -3,11 +3,13 @@
 use Prim.Native.Nat.{ℕ, zero, suc, _+_, _-_, _*_, _%_, _≤_, _<_}
 use native.Mathlib.Numerals.{add-one}
 use native.Mathlib.Omega.{arith}
-use native.Mathlib.Decide.{decLe}
 use mathlib.Core.Path.{_≡_, ap, _∙_}
 use mathlib.Core.List.{List, [], _∷_, _++_}
 use lib.ListN.{length, getD, set, take, replicate, length-append, length-set, List·getD-append}
 use lib.Seq.{take-all, take-suc, take-suc-set, getD-append-add, length-take-le}
+use lib.Dec.{leb}
+use borrow.Table.Steps.{cases}
+use borrow.Author.Tests.{leb-true, leb-false}
 use Rattle.refusals.specs.declared.Fault.the-variants.{Width}
 use Rattle.refusals.specs.declared.Answer.the-variants.{Accepted, Refused}
 use Rattle.refusals.proofs.Lists.{sets-append}
@@ -19,7 +21,7 @@ use Rattle.control.specs.declared.Word.the-variants.{Untouched, Stored, Loaded}
 use Rattle.control.specs.Simpson.{Side, simpson}
 use Rattle.control.specs.Step.{sound, step, WordBelow}
 use Rattle.control.proofs.Sound.{sound-is}
-use Rattle.control.proofs.Always.{by-cases, else-refused}
+use Rattle.control.proofs.Always.{else-refused}
 use Rattle.control.proofs.Moves.{word-below}
 use Rattle.machine.specs.Machine.{firstWords, inAllFour, idleState, fresh}
 
@@ -61,10 +63,6 @@ unfoldable behind : ℕ → List ℕ → List ℕ
 behind zero v = v
 behind (suc m) v = v ++ behind m v
 
-pub chosen-by : {A C : Type 0} → Dec A → (A → C) → ((A → ⊥) → C) → C
-chosen-by (yes a) f g = f a
-chosen-by (no h) f g = g h
-
 module _ (v : List ℕ) (long : length v ≡ 8) where
   behind-length : (m : ℕ) → length (behind m v) ≡ 8 * suc m
   unfolding behind
@@ -75,12 +73,15 @@ module _ (v : List ℕ) (long : length v ≡ 8) where
   unfolding behind
   behind-at zero k h = ap (λ (j : ℕ). getD v j 0) (omega arith)
   behind-at (suc m) k h =
-      chosen-by (decLe 8 k)
+      cases (leb 8 k)
       (λ past.
-      let e : k ≡ length v + (k - 8) = omega arith in
+      let e : k ≡ length v + (k - 8) = omega (arith, leb-true 8 k past) in
       ap (λ (j : ℕ). getD (v ++ behind m v) j 0) e ∙ getD-append-add v (behind m v) (k - 8) 0 ∙ behind-at m (k - 8) (omega arith)
-      ∙ ap (λ (j : ℕ). getD v j 0) (omega arith))
-      (λ here. let e : k % 8 ≡ k = omega arith in rw e (List·getD-append v (behind m v) 0 k (omega arith)))
+      ∙ ap (λ (j : ℕ). getD v j 0) (omega (arith, leb-true 8 k past)))
+      (λ here.
+      let less : k < 8 = leb-false 8 k here in
+      let e : k % 8 ≡ k = omega arith in
+      rw e (List·getD-append v (behind m v) 0 k (omega arith)))
 
   pub four-length : length (inAllFour v) ≡ 32
   unfolding inAllFour behind
@@ -98,7 +99,7 @@ below-eight (Loaded k) n h b = omega arith
 
 pub step-below : (side : Side) (c : Control) → WordBelow 8 (step simpson side c .word)
 step-below side c =
-    by-cases (sound simpson c) (λ e. below-eight (step simpson side c .word) (c .n) (sound-is c e .high) (word-below side c))
+    cases (sound simpson c) (λ e. below-eight (step simpson side c .word) (c .n) (sound-is c e .high) (word-below side c))
     (λ e. rw (else-refused simpson side c e) tt)
 
 module _ {w : Word} {k : ℕ} (h : WordBelow 8 w) where
