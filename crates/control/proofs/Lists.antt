@@ -8,7 +8,7 @@ use mathlib.Core.Bool.{not}
 use mathlib.Core.List.{List, [], _∷_, _++_, append-nil}
 use lib.ListN.{length, getD, length-append}
 use lib.Seq.{getD-append-add}
-use Rattle.control.specs.Simpson.{Action, stay, slotAt, setPair, setIndex, setSlot, setLatest, setReading, store, load, eachWord, Side, Writer, Reader, simpson}
+use Rattle.control.specs.Simpson.{Action, stay, slotAt, setPair, setIndex, setSlot, setLatest, setReading, store, load, eachWord, Side, Writer, Reader, Procedures, simpson}
 
 -- A move for each word, and what comes after them.
 module _ (f : ℕ → Action) where
@@ -39,45 +39,45 @@ unfolding simpson
 read-length n = simp each-length (omega arith)
 
 -- The action of a call of width n at a phase.
-abbrev pub actionAt : Side → ℕ → ℕ → Action
-actionAt side n p = getD (simpson side n) p stay
+abbrev pub actionAt : Procedures → Side → ℕ → ℕ → Action
+actionAt ps side n p = getD (ps side n) p stay
 
 -- 01's numbered list of a write's moves, and its list of a read's, by the phase at which each is made.
-pub writing-pair : (n p : ℕ) → p ≡ 0 → actionAt Writer n p ≡ setPair (λ b c. not (b .reading))
+pub writing-pair : (n p : ℕ) → p ≡ 0 → actionAt simpson Writer n p ≡ setPair (λ b c. not (b .reading))
 unfolding simpson
 writing-pair n p e = rw e
 
-pub writing-index : (n p : ℕ) → p ≡ 1 → actionAt Writer n p ≡ setIndex (λ b c. not (slotAt b (c .pair)))
+pub writing-index : (n p : ℕ) → p ≡ 1 → actionAt simpson Writer n p ≡ setIndex (λ b c. not (slotAt b (c .pair)))
 unfolding simpson
 writing-index n p e = rw e
 
-pub writing-word : (n p k : ℕ) → p ≡ suc (suc k) → k < n → actionAt Writer n p ≡ store k
+pub writing-word : (n p k : ℕ) → p ≡ suc (suc k) → k < n → actionAt simpson Writer n p ≡ store k
 unfolding simpson
 writing-word n p k e h = rw e (each-at store 0 n k _ h ∙ ap store (omega arith))
 
 writing-past : (n p j : ℕ) → p ≡ suc (suc (n + j))
-    → actionAt Writer n p ≡ getD (setSlot (λ b c. c .index) ∷ setLatest (λ b c. c .pair) ∷ []) j stay
+    → actionAt simpson Writer n p ≡ getD (setSlot (λ b c. c .index) ∷ setLatest (λ b c. c .pair) ∷ []) j stay
 unfolding simpson
 writing-past n p j e = rw e (each-past store 0 n j _)
 
-pub writing-slot : (n p : ℕ) → p ≡ suc (suc n) → actionAt Writer n p ≡ setSlot (λ b c. c .index)
+pub writing-slot : (n p : ℕ) → p ≡ suc (suc n) → actionAt simpson Writer n p ≡ setSlot (λ b c. c .index)
 writing-slot n p e = writing-past n p 0 (omega arith)
 
-pub writing-latest : (n p : ℕ) → p ≡ suc (suc (suc n)) → actionAt Writer n p ≡ setLatest (λ b c. c .pair)
+pub writing-latest : (n p : ℕ) → p ≡ suc (suc (suc n)) → actionAt simpson Writer n p ≡ setLatest (λ b c. c .pair)
 writing-latest n p e = writing-past n p 1 (omega arith)
 
-pub reading-pair : (n p : ℕ) → p ≡ 0 → actionAt Reader n p ≡ setPair (λ b c. b .latest)
+pub reading-pair : (n p : ℕ) → p ≡ 0 → actionAt simpson Reader n p ≡ setPair (λ b c. b .latest)
 unfolding simpson
 reading-pair n p e = rw e
 
-pub reading-announce : (n p : ℕ) → p ≡ 1 → actionAt Reader n p ≡ setReading (λ b c. c .pair)
+pub reading-announce : (n p : ℕ) → p ≡ 1 → actionAt simpson Reader n p ≡ setReading (λ b c. c .pair)
 unfolding simpson
 reading-announce n p e = rw e
 
-pub reading-index : (n p : ℕ) → p ≡ 2 → actionAt Reader n p ≡ setIndex (λ b c. slotAt b (c .pair))
+pub reading-index : (n p : ℕ) → p ≡ 2 → actionAt simpson Reader n p ≡ setIndex (λ b c. slotAt b (c .pair))
 unfolding simpson
 reading-index n p e = rw e
 
-pub reading-word : (n p k : ℕ) → p ≡ suc (suc (suc k)) → k < n → actionAt Reader n p ≡ load k
+pub reading-word : (n p k : ℕ) → p ≡ suc (suc (suc k)) → k < n → actionAt simpson Reader n p ≡ load k
 unfolding simpson
 reading-word n p k e h = rw e (rw (← append-nil (eachWord load 0 n)) (each-at load 0 n k [] h ∙ ap load (omega arith)))

@@ -35,14 +35,14 @@ module _ (P : Action → Type 0) (none : P stay) where
   at-end (suc (suc p)) slot latest = none
 
   pub writing-all : (n p : ℕ) → P (setPair (λ b c. not (b .reading))) → P (setIndex (λ b c. not (slotAt b (c .pair))))
-      → ((k : ℕ) → k < n → P (store k)) → P (setSlot (λ b c. c .index)) → P (setLatest (λ b c. c .pair)) → P (actionAt Writer n p)
+      → ((k : ℕ) → k < n → P (store k)) → P (setSlot (λ b c. c .index)) → P (setLatest (λ b c. c .pair)) → P (actionAt simpson Writer n p)
   unfolding simpson
   writing-all n zero pair index word slot latest = pair
   writing-all n (suc zero) pair index word slot latest = index
   writing-all n (suc (suc p)) pair index word slot latest = at-words store n _ word (λ q. at-end q slot latest) 0 n p (omega arith)
 
   pub reading-all : (n p : ℕ) → P (setPair (λ b c. b .latest)) → P (setReading (λ b c. c .pair)) → P (setIndex (λ b c. slotAt b (c .pair)))
-      → ((k : ℕ) → k < n → P (load k)) → P (actionAt Reader n p)
+      → ((k : ℕ) → k < n → P (load k)) → P (actionAt simpson Reader n p)
   unfolding simpson
   reading-all n zero pair announce index word = pair
   reading-all n (suc zero) pair announce index word = announce
@@ -54,7 +54,7 @@ module _ (P : Action → Type 0) (none : P stay) where
 abbrev Within : ℕ → Action → Type 0
 Within n a = (b : Bits) (c : Core) → WordBelow n (a b c .word)
 
-actions-within : (side : Side) (n p : ℕ) → Within n (actionAt side n p)
+actions-within : (side : Side) (n p : ℕ) → Within n (actionAt simpson side n p)
 actions-within Writer n p =
     writing-all (Within n) (λ b c. tt) n p (λ b c. tt) (λ b c. tt) (λ k h b c. h) (λ b c. tt) (λ b c. tt)
 actions-within Reader n p = reading-all (Within n) (λ b c. tt) n p (λ b c. tt) (λ b c. tt) (λ b c. tt) (λ k h b c. h)
@@ -62,7 +62,7 @@ actions-within Reader n p = reading-all (Within n) (λ b c. tt) n p (λ b c. tt)
 pub word-below : (side : Side) (c : Control) → WordBelow (c .n) (step simpson side c .word)
 word-below side c =
     cases (sound simpson c)
-    (λ e. rw (step-at side c _ e refl) (actions-within side (c .n) (coreOf side c .phase) (c .bits) (coreOf side c)))
+    (λ e. rw (step-at simpson side c _ e refl) (actions-within side (c .n) (coreOf side c .phase) (c .bits) (coreOf side c)))
     (λ e. rw (else-refused simpson side c e) tt)
 
 -- 001, below figure 11: "'slot[.]' and 'latest' are only written by procedure write, and reading is only written by procedure read".
@@ -71,10 +71,10 @@ KeepsReading a = (b : Bits) (c : Core) → a b c .bits .reading ≡ b .reading
 
 pub write-keeps-reading : (c : Control) → step simpson Writer c .control .bits .reading ≡ c .bits .reading
 write-keeps-reading c =
-    let same : KeepsReading (actionAt Writer (c .n) (c .writer .phase)) =
+    let same : KeepsReading (actionAt simpson Writer (c .n) (c .writer .phase)) =
     writing-all KeepsReading (λ b x. refl) (c .n) (c .writer .phase) (λ b x. refl) (λ b x. refl) (λ k h b x. refl) (λ b x. refl)
     (λ b x. refl) in
-    cases (sound simpson c) (λ e. rw (step-at Writer c _ e refl) (same (c .bits) (c .writer)))
+    cases (sound simpson c) (λ e. rw (step-at simpson Writer c _ e refl) (same (c .bits) (c .writer)))
     (λ e. rw (else-refused simpson Writer c e))
 
 pub record SameWritten (a b : Bits) : Type 0 where
@@ -90,10 +90,10 @@ KeepsWritten a = (b : Bits) (c : Core) → SameWritten (a b c .bits) b
 
 pub read-keeps-written : (c : Control) → SameWritten (step simpson Reader c .control .bits) (c .bits)
 read-keeps-written c =
-    let same : KeepsWritten (actionAt Reader (c .n) (c .reader .phase)) =
+    let same : KeepsWritten (actionAt simpson Reader (c .n) (c .reader .phase)) =
     reading-all KeepsWritten (λ b x. kept refl refl refl) (c .n) (c .reader .phase) (λ b x. kept refl refl refl)
     (λ b x. kept refl refl refl) (λ b x. kept refl refl refl) (λ k h b x. kept refl refl refl) in
-    cases (sound simpson c) (λ e. rw (step-at Reader c _ e refl) (same (c .bits) (c .reader)))
+    cases (sound simpson c) (λ e. rw (step-at simpson Reader c _ e refl) (same (c .bits) (c .reader)))
     (λ e. rw (else-refused simpson Reader c e) (kept refl refl refl))
 
 -- The idle control part of a width from 1 to 8 is sound.

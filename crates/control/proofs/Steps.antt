@@ -1,65 +1,56 @@
--- What a step is, move by move: the nine moves of the two procedures, and a refused one.
+-- What a sound step is, move by move, whatever the two procedures are.
 -- Assumes nothing.
 use Prim.Native.Nat.{ℕ, _+_, _<_}
 use native.Mathlib.Omega.{arith}
-use mathlib.Core.Path.{_≡_, sym, _∙_}
-use mathlib.Core.Bool.{true}
+use mathlib.Core.Path.{_≡_, refl, sym, _∙_}
+use mathlib.Core.Bool.{true, cond}
 use lib.ListN.{length}
+use lib.Dec.{eqb}
 use borrow.Author.Tests.{eq-eqb, ne-eqb}
 use Rattle.control.specs.declared.Control.{Control}
+use Rattle.control.specs.declared.Happened.{Happened}
 use Rattle.control.specs.declared.Happened.the-variants.{NoEvent, WriteCalled, WriteReturned, ReadCalled, ReadReturned}
-use Rattle.control.specs.Simpson.{Action, Side, Writer, Reader, simpson}
-use Rattle.control.specs.Step.{coreOf, does, atPhase, sound, accepted, refused, stepped, step}
-use Rattle.control.proofs.Lists.{actionAt, write-length, read-length}
+use Rattle.control.specs.Simpson.{Action, Side, Writer, Reader, Procedures}
+use Rattle.control.specs.Step.{coreOf, does, atPhase, event, sound, accepted, stepped, step}
+use Rattle.control.proofs.Lists.{actionAt}
 
 -- A sound step is the action at the mover's phase.
-pub step-at : (side : Side) (c : Control) (a : Action) → sound simpson c ≡ true → actionAt side (c .n) (coreOf side c .phase) ≡ a
-    → step simpson side c ≡ stepped side (length (simpson side (c .n))) a c
+pub step-at : (ps : Procedures) (side : Side) (c : Control) (a : Action) → sound ps c ≡ true
+    → actionAt ps side (c .n) (coreOf side c .phase) ≡ a → step ps side c ≡ stepped side (length (ps side (c .n))) a c
 unfolding step
-step-at side c a h e = rw (h, e)
+step-at ps side c a h e = rw (h, e)
 
--- The first move of a write, one between, and the last.
-module _ (c : Control) {a : Action} (h : sound simpson c ≡ true) (e : actionAt Writer (c .n) (c .writer .phase) ≡ a) where
-  pub write-first : c .writer .phase ≡ 0
-      → accepted WriteCalled (a (c .bits) (c .writer) .word) (atPhase Writer 1 (does Writer a c)) ≡ step simpson Writer c
-  write-first f =
-      let more : 1 ≡ length (simpson Writer (c .n)) → ⊥ = λ one. omega (arith, write-length (c .n)) in
-      sym (step-at Writer c a h e ∙ rw (f, ne-eqb 1 (length (simpson Writer (c .n))) more))
+-- The events of a side's call and of its return.
+abbrev called : Side → Happened
+called Writer = WriteCalled
+called Reader = ReadCalled
 
-  pub write-between : (next : ℕ) → next ≡ c .writer .phase + 1 → 1 < next → next < c .n + 4
-      → accepted NoEvent (a (c .bits) (c .writer) .word) (atPhase Writer next (does Writer a c)) ≡ step simpson Writer c
-  write-between next f l u =
-      let busy : c .writer .phase ≡ 0 → ⊥ = λ zero. omega arith in
-      let more : next ≡ length (simpson Writer (c .n)) → ⊥ = λ all. omega (arith, write-length (c .n)) in
-      sym (step-at Writer c a h e ∙ rw (← f, ne-eqb (c .writer .phase) 0 busy, ne-eqb next (length (simpson Writer (c .n))) more))
+abbrev returned : Side → Happened
+returned Writer = WriteReturned
+returned Reader = ReadReturned
 
-  pub write-last : c .writer .phase + 1 ≡ c .n + 4
-      → accepted WriteReturned (a (c .bits) (c .writer) .word) (atPhase Writer 0 (does Writer a c)) ≡ step simpson Writer c
-  write-last f =
-      let busy : c .writer .phase ≡ 0 → ⊥ = λ zero. omega arith in
-      let all : c .writer .phase + 1 ≡ length (simpson Writer (c .n)) = omega (arith, write-length (c .n)) in
-      let done = eq-eqb (c .writer .phase + 1) (length (simpson Writer (c .n))) all in
-      sym (step-at Writer c a h e ∙ rw (ne-eqb (c .writer .phase) 0 busy, done))
+event-is : (side : Side) (m p : ℕ) → event side m p ≡ cond (eqb p 0) (called side) (cond (eqb (p + 1) m) (returned side) NoEvent)
+event-is Writer m p = refl
+event-is Reader m p = refl
 
--- The first move of a read, one between, and the last.
-module _ (c : Control) {a : Action} (h : sound simpson c ≡ true) (e : actionAt Reader (c .n) (c .reader .phase) ≡ a) where
-  pub read-first : c .reader .phase ≡ 0
-      → accepted ReadCalled (a (c .bits) (c .reader) .word) (atPhase Reader 1 (does Reader a c)) ≡ step simpson Reader c
-  read-first f =
-      let more : 1 ≡ length (simpson Reader (c .n)) → ⊥ = λ one. omega (arith, read-length (c .n)) in
-      sym (step-at Reader c a h e ∙ rw (f, ne-eqb 1 (length (simpson Reader (c .n))) more))
+-- The first move of a call of m moves, one between, and the last.
+module _ (ps : Procedures) (side : Side) (c : Control) {a : Action} {m : ℕ} (h : sound ps c ≡ true)
+    (e : actionAt ps side (c .n) (coreOf side c .phase) ≡ a) (all : length (ps side (c .n)) ≡ m) where
+  is : step ps side c ≡ stepped side m a c
+  is = step-at ps side c a h e ∙ rw all
 
-  pub read-between : (next : ℕ) → next ≡ c .reader .phase + 1 → 1 < next → next < c .n + 3
-      → accepted NoEvent (a (c .bits) (c .reader) .word) (atPhase Reader next (does Reader a c)) ≡ step simpson Reader c
-  read-between next f l u =
-      let busy : c .reader .phase ≡ 0 → ⊥ = λ zero. omega arith in
-      let more : next ≡ length (simpson Reader (c .n)) → ⊥ = λ all. omega (arith, read-length (c .n)) in
-      sym (step-at Reader c a h e ∙ rw (← f, ne-eqb (c .reader .phase) 0 busy, ne-eqb next (length (simpson Reader (c .n))) more))
+  pub step-first : coreOf side c .phase ≡ 0 → 1 < m
+      → accepted (called side) (a (c .bits) (coreOf side c) .word) (atPhase side 1 (does side a c)) ≡ step ps side c
+  step-first f l = sym (is ∙ rw (event-is side m (coreOf side c .phase), f, ne-eqb 1 m (omega arith)))
 
-  pub read-last : c .reader .phase + 1 ≡ c .n + 3
-      → accepted ReadReturned (a (c .bits) (c .reader) .word) (atPhase Reader 0 (does Reader a c)) ≡ step simpson Reader c
-  read-last f =
-      let busy : c .reader .phase ≡ 0 → ⊥ = λ zero. omega arith in
-      let all : c .reader .phase + 1 ≡ length (simpson Reader (c .n)) = omega (arith, read-length (c .n)) in
-      let done = eq-eqb (c .reader .phase + 1) (length (simpson Reader (c .n))) all in
-      sym (step-at Reader c a h e ∙ rw (ne-eqb (c .reader .phase) 0 busy, done))
+  pub step-between : (next : ℕ) → next ≡ coreOf side c .phase + 1 → 1 < next → next < m
+      → accepted NoEvent (a (c .bits) (coreOf side c) .word) (atPhase side next (does side a c)) ≡ step ps side c
+  step-between next f l u =
+      let p = coreOf side c .phase in
+      sym (is ∙ rw (event-is side m p, ← f, ne-eqb p 0 (omega arith), ne-eqb next m (omega arith)))
+
+  pub step-last : coreOf side c .phase + 1 ≡ m → 1 < m
+      → accepted (returned side) (a (c .bits) (coreOf side c) .word) (atPhase side 0 (does side a c)) ≡ step ps side c
+  step-last f l =
+      let p = coreOf side c .phase in
+      sym (is ∙ rw (event-is side m p, ne-eqb p 0 (omega arith), eq-eqb (p + 1) m f))

@@ -2,10 +2,11 @@
 -- Assumes nothing.
 use native.Mathlib.Omega.{arith}
 use mathlib.Core.Path.{refl, sym, _∙_}
-use Rattle.control.proofs.Lists.{reading-pair, reading-announce, reading-index, reading-word}
+use Rattle.control.specs.Simpson.{Reader, simpson}
+use Rattle.control.proofs.Lists.{read-length, reading-pair, reading-announce, reading-index, reading-word}
 use Rattle.control.proofs.Sound.{sound-is, tested-sound, tested-unsound}
 use Rattle.control.proofs.Always.{else-refused}
-use Rattle.control.proofs.Steps.{read-first, read-between, read-last}
+use Rattle.control.proofs.Steps.{step-first, step-between, step-last}
 use borrow.Author.Needs.{needs}
 use Rattle.control.proofs.Control.reader_move.Statement.{statement}
 use Rattle.control.proofs.Control.reader_move.Tie as tie
@@ -56,31 +57,33 @@ returns-2 : tie.Need-returns-2
 returns-2 c =
     let h = tested-sound _ _ (c .before .before .before .before .sound .ensures) (c .before .before .before .if1 .left) in
     rw (c .reader-at .ensures, c .before .pair-latest .ensures)
-    (read-first _ h (reading-pair _ _ (omega arith)) (omega arith))
+    (step-first simpson Reader _ h (reading-pair _ _ (omega arith)) (read-length _) (omega arith) (omega arith))
 
 returns-3 : tie.Need-returns-3
 returns-3 c =
     let h = tested-sound _ _ (c .before .before .before .before .sound .ensures) (c .before .before .before .if1 .left) in
     rw (c .reader-at2 .ensures, c .before .reading-pair .ensures)
-    (read-between _ h (reading-announce _ _ (omega arith)) 2 (omega arith) (omega arith) (omega arith))
+    (step-between simpson Reader _ h (reading-announce _ _ (omega arith)) (read-length _) 2 (omega arith) (omega arith) (omega arith))
 
 returns-4 : tie.Need-returns-4
 returns-4 c =
     let h = tested-sound _ _ (c .before .before .before .before .sound .ensures) (c .before .before .before .if1 .left) in
+    let s = sound-is _ h in
     rw (c .reader-at3 .ensures, c .before .index-slot .ensures)
-    (read-between _ h (reading-index _ _ (omega arith)) 3 (omega arith) (omega arith) (omega (arith, sound-is _ h)))
+    (step-between simpson Reader _ h (reading-index _ _ (omega arith)) (read-length _) 3 (omega arith) (omega arith) (omega (arith, s)))
 
 returns-5 : tie.Need-returns-5
 returns-5 c =
     let h = tested-sound _ _ (c .before .before .before .before .before .sound .ensures) (c .before .before .before .before .if1 .left) in
     rw (c .reader-at4 .ensures)
-    (read-between _ h (reading-word _ _ _ (omega arith) (omega arith)) _ refl (omega arith) (omega arith))
+    (step-between simpson Reader _ h (reading-word _ _ _ (omega arith) (omega arith)) (read-length _) _ refl (omega arith) (omega arith))
 
 returns-6 : tie.Need-returns-6
 returns-6 c =
     let h = tested-sound _ _ (c .before .before .before .before .before .sound .ensures) (c .before .before .before .before .if1 .left) in
+    let s = sound-is _ h in
     rw (c .reader-at5 .ensures)
-    (read-last _ h (reading-word _ _ _ (omega arith) (omega (arith, sound-is _ h))) (omega (arith, sound-is _ h)))
+    (step-last simpson Reader _ h (reading-word _ _ _ (omega arith) (omega (arith, s))) (read-length _) (omega (arith, s)) (omega arith))
 
 pub reader-move-spec : {M : Type 1} → statement M
 reader-move-spec =

@@ -2,10 +2,11 @@
 -- Assumes nothing.
 use native.Mathlib.Omega.{arith}
 use mathlib.Core.Path.{refl, sym, _∙_}
-use Rattle.control.proofs.Lists.{writing-pair, writing-index, writing-word, writing-slot, writing-latest}
+use Rattle.control.specs.Simpson.{Writer, simpson}
+use Rattle.control.proofs.Lists.{write-length, writing-pair, writing-index, writing-word, writing-slot, writing-latest}
 use Rattle.control.proofs.Sound.{sound-is, tested-sound, tested-unsound}
 use Rattle.control.proofs.Always.{else-refused}
-use Rattle.control.proofs.Steps.{write-first, write-between, write-last}
+use Rattle.control.proofs.Steps.{step-first, step-between, step-last}
 use borrow.Author.Needs.{needs}
 use Rattle.control.proofs.Control.writer_move.Statement.{statement}
 use Rattle.control.proofs.Control.writer_move.Tie as tie
@@ -56,19 +57,19 @@ returns-2 : tie.Need-returns-2
 returns-2 c =
     let h = tested-sound _ _ (c .before .before .before .before .sound .ensures) (c .before .before .before .if1 .left) in
     rw (c .writer-at .ensures, c .before .pair-not-reading .ensures)
-    (write-first _ h (writing-pair _ _ (omega arith)) (omega arith))
+    (step-first simpson Writer _ h (writing-pair _ _ (omega arith)) (write-length _) (omega arith) (omega arith))
 
 returns-3 : tie.Need-returns-3
 returns-3 c =
     let h = tested-sound _ _ (c .before .before .before .before .sound .ensures) (c .before .before .before .if1 .left) in
     rw (c .writer-at2 .ensures, c .before .index-not-slot .ensures)
-    (write-between _ h (writing-index _ _ (omega arith)) 2 (omega arith) (omega arith) (omega arith))
+    (step-between simpson Writer _ h (writing-index _ _ (omega arith)) (write-length _) 2 (omega arith) (omega arith) (omega arith))
 
 returns-4 : tie.Need-returns-4
 returns-4 c =
     let h = tested-sound _ _ (c .before .before .before .before .before .sound .ensures) (c .before .before .before .before .if1 .left) in
     rw (c .writer-at3 .ensures)
-    (write-between _ h (writing-word _ _ _ (omega arith) (omega arith)) _ refl (omega arith) (omega arith))
+    (step-between simpson Writer _ h (writing-word _ _ _ (omega arith) (omega arith)) (write-length _) _ refl (omega arith) (omega arith))
 
 returns-5 : tie.Need-returns-5
 returns-5 c =
@@ -76,15 +77,16 @@ returns-5 c =
     tested-sound _ _ (c .before .before .before .before .before .before .before .before .sound .ensures)
     (c .before .before .before .before .before .before .before .if1 .left) in
     rw (c .writer-at4 .ensures, c .before .slot-index .ensures)
-    (write-between _ h (writing-slot _ _ (omega arith)) _ refl (omega arith) (omega arith))
+    (step-between simpson Writer _ h (writing-slot _ _ (omega arith)) (write-length _) _ refl (omega arith) (omega arith))
 
 returns-6 : tie.Need-returns-6
 returns-6 c =
     let h =
     tested-sound _ _ (c .before .before .before .before .before .before .before .before .sound .ensures)
     (c .before .before .before .before .before .before .before .if1 .left) in
+    let s = sound-is _ h in
     rw (c .writer-at5 .ensures, c .before .latest-pair .ensures)
-    (write-last _ h (writing-latest _ _ (omega (arith, sound-is _ h))) (omega (arith, sound-is _ h)))
+    (step-last simpson Writer _ h (writing-latest _ _ (omega (arith, s))) (write-length _) (omega (arith, s)) (omega arith))
 
 pub writer-move-spec : {M : Type 1} → statement M
 writer-move-spec =
