@@ -12,7 +12,7 @@ use Rattle.refusals.specs.declared.Answer.the-variants.{Accepted}
 use Rattle.numbers.proofs.Bounds.{and-both}
 use Rattle.items.specs.Item.{isWidth}
 use Rattle.control.specs.declared.Control.{Control}
-use Rattle.control.specs.Simpson.{Side, Writer, Reader, Procedures}
+use Rattle.control.specs.Simpson.{moves, Side, Writer, Reader, Procedures}
 use Rattle.control.specs.Step.{counted, sound, refused, step}
 
 -- Each side can always move (001's asynchrony): on a sound control part no move is refused.
@@ -35,14 +35,14 @@ counted-below p m h =
 pub stays-sound : (ps : Procedures) (side : Side) (c : Control) → sound ps c ≡ true → sound ps (step ps side c .control) ≡ true
 unfolding step sound
 stays-sound ps Writer c h =
-    let m = length (ps Writer (c .n)) in
-    let r = ltb (c .reader .phase) (length (ps Reader (c .n))) in
+    let m = length (moves (ps Writer (c .n))) in
+    let r = ltb (c .reader .phase) (length (moves (ps Reader (c .n)))) in
     let p = and-both (isWidth (c .n)) (ltb (c .writer .phase) m && r) h in
     let q = and-both (ltb (c .writer .phase) m) r (p .1) in
     rw h (simp (p .0, counted-below (c .writer .phase) m (q .0), q .1))
 stays-sound ps Reader c h =
-    let m = length (ps Reader (c .n)) in
-    let w = ltb (c .writer .phase) (length (ps Writer (c .n))) in
+    let m = length (moves (ps Reader (c .n))) in
+    let w = ltb (c .writer .phase) (length (moves (ps Writer (c .n)))) in
     let p = and-both (isWidth (c .n)) (w && ltb (c .reader .phase) m) h in
     let q = and-both w (ltb (c .reader .phase) m) (p .1) in
     rw h (simp (p .0, q .0, counted-below (c .reader .phase) m (q .1)))

@@ -4,7 +4,7 @@ use Prim.Native.Nat.{ℕ, zero, suc, _+_, _≤_, _<_}
 use native.Mathlib.Omega.{arith}
 use mathlib.Core.Path.{_≡_, refl}
 use mathlib.Core.Bool.{true, not}
-use mathlib.Core.List.{List, [], _∷_, _++_, append-nil}
+use mathlib.Core.List.{List, [], _∷_, _++_}
 use lib.ListN.{getD}
 use borrow.Table.Steps.{cases}
 use Rattle.numbers.proofs.Bounds.{between-true}
@@ -12,17 +12,17 @@ use Rattle.items.specs.Item.{isWidth}
 use Rattle.control.specs.declared.Bits.{Bits}
 use Rattle.control.specs.declared.Core.{Core}
 use Rattle.control.specs.declared.Control.{Control}
-use Rattle.control.specs.Simpson.{Action, stay, slotAt, setPair, setIndex, setSlot, setLatest, setReading, store, load, eachWord, Side, Writer, Reader, simpson}
+use Rattle.control.specs.Simpson.{Action, stay, slotAt, setPair, setIndex, setSlot, setLatest, setReading, eachWord, Side, Writer, Reader, simpson}
 use Rattle.control.specs.Step.{coreOf, sound, step, idle, WordBelow}
-use Rattle.control.proofs.Lists.{actionAt}
+use Rattle.control.proofs.Lists.{word, actionAt}
 use Rattle.control.proofs.Sound.{sound-yes}
 use Rattle.control.proofs.Steps.{step-at}
 use Rattle.control.proofs.Always.{else-refused}
 
--- What holds of no action, of each action of a procedure, and of its action on every word below n, holds at every phase.
+-- What holds of no action, of each action of a procedure, and of the action on every word below n, holds at every phase.
 module _ (P : Action → Type 0) (none : P stay) where
-  module _ (f : ℕ → Action) (n : ℕ) (rest : List Action) (one : (k : ℕ) → k < n → P (f k)) (others : (p : ℕ) → P (getD rest p stay)) where
-    at-words : (i m p : ℕ) → i + m ≤ n → P (getD (eachWord f i m ++ rest) p stay)
+  module _ (n : ℕ) (rest : List Action) (one : (k : ℕ) → k < n → P (word k)) (others : (p : ℕ) → P (getD rest p stay)) where
+    at-words : (i m p : ℕ) → i + m ≤ n → P (getD (eachWord i m ++ rest) p stay)
     unfolding eachWord
     at-words i zero p h = others p
     at-words i (suc m) zero h = one i (omega arith)
@@ -35,31 +35,30 @@ module _ (P : Action → Type 0) (none : P stay) where
   at-end (suc (suc p)) slot latest = none
 
   pub writing-all : (n p : ℕ) → P (setPair (λ b c. not (b .reading))) → P (setIndex (λ b c. not (slotAt b (c .pair))))
-      → ((k : ℕ) → k < n → P (store k)) → P (setSlot (λ b c. c .index)) → P (setLatest (λ b c. c .pair)) → P (actionAt simpson Writer n p)
+      → ((k : ℕ) → k < n → P (word k)) → P (setSlot (λ b c. c .index)) → P (setLatest (λ b c. c .pair)) → P (actionAt simpson Writer n p)
   unfolding simpson
-  writing-all n zero pair index word slot latest = pair
-  writing-all n (suc zero) pair index word slot latest = index
-  writing-all n (suc (suc p)) pair index word slot latest = at-words store n _ word (λ q. at-end q slot latest) 0 n p (omega arith)
+  writing-all n zero pair index each slot latest = pair
+  writing-all n (suc zero) pair index each slot latest = index
+  writing-all n (suc (suc p)) pair index each slot latest = at-words n _ each (λ q. at-end q slot latest) 0 n p (omega arith)
 
   pub reading-all : (n p : ℕ) → P (setPair (λ b c. b .latest)) → P (setReading (λ b c. c .pair)) → P (setIndex (λ b c. slotAt b (c .pair)))
-      → ((k : ℕ) → k < n → P (load k)) → P (actionAt simpson Reader n p)
+      → ((k : ℕ) → k < n → P (word k)) → P (actionAt simpson Reader n p)
   unfolding simpson
-  reading-all n zero pair announce index word = pair
-  reading-all n (suc zero) pair announce index word = announce
-  reading-all n (suc (suc zero)) pair announce index word = index
-  reading-all n (suc (suc (suc p))) pair announce index word =
-      rw (← append-nil (eachWord load 0 n)) (at-words load n [] word (λ q. none) 0 n p (omega arith))
+  reading-all n zero pair announce index each = pair
+  reading-all n (suc zero) pair announce index each = announce
+  reading-all n (suc (suc zero)) pair announce index each = index
+  reading-all n (suc (suc (suc p))) pair announce index each = at-words n _ each (λ q. none) 0 n p (omega arith)
 
 -- The word that a move touches is one of the item's n.
 abbrev Within : ℕ → Action → Type 0
-Within n a = (b : Bits) (c : Core) → WordBelow n (a b c .word)
+Within n a = (b : Bits) (c : Core) → WordBelow n (a b c .touched)
 
 actions-within : (side : Side) (n p : ℕ) → Within n (actionAt simpson side n p)
 actions-within Writer n p =
     writing-all (Within n) (λ b c. tt) n p (λ b c. tt) (λ b c. tt) (λ k h b c. h) (λ b c. tt) (λ b c. tt)
 actions-within Reader n p = reading-all (Within n) (λ b c. tt) n p (λ b c. tt) (λ b c. tt) (λ b c. tt) (λ k h b c. h)
 
-pub word-below : (side : Side) (c : Control) → WordBelow (c .n) (step simpson side c .word)
+pub word-below : (side : Side) (c : Control) → WordBelow (c .n) (step simpson side c .touched)
 word-below side c =
     cases (sound simpson c)
     (λ e. rw (step-at simpson side c _ e refl) (actions-within side (c .n) (coreOf side c .phase) (c .bits) (coreOf side c)))

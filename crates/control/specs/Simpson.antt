@@ -4,21 +4,21 @@ use mathlib.Core.Bool.{Bool, not, cond}
 use mathlib.Core.List.{List, [], _∷_, _++_}
 use Rattle.control.specs.declared.Bits.{Bits}
 use Rattle.control.specs.declared.Core.{Core}
-use Rattle.control.specs.declared.Word.{Word}
-use Rattle.control.specs.declared.Word.the-variants.{Untouched, Stored, Loaded}
+use Rattle.control.specs.declared.Touched.{Touched}
+use Rattle.control.specs.declared.Touched.the-variants.{Nothing, Word}
 
--- What an action leaves: the bits, the mover's locals, and what is done with which word.
+-- What an action leaves: the bits, the mover's locals, and the word that it stores or loads.
 pub record Acted : Type 0 where
   pub bits : Bits
   pub core : Core
-  pub word : Word
+  pub touched : Touched
 
 abbrev pub Action : Type 0
 Action = Bits → Core → Acted
 
 -- No action: bits and locals as they are, no word.
 abbrev pub stay : Action
-stay b c = record { bits = b; core = c; word = Untouched }
+stay b c = record { bits = b; core = c; touched = Nothing }
 
 -- slot[pair]
 abbrev pub slotAt : Bits → Bool → Bool
@@ -43,33 +43,38 @@ setLatest x b c = stay (record { latest = x b c; reading = b .reading; slot0 = b
 abbrev pub setReading : (Bits → Core → Bool) → Action
 setReading x b c = stay (record { latest = b .latest; reading = x b c; slot0 = b .slot0; slot1 = b .slot1 }) c
 
--- Word k of the mover's item is stored into the slot (pair, index), or loaded from it.
-abbrev pub store : ℕ → Action
-store k b c = record { bits = b; core = c; word = Stored k }
+-- "words 0 to n-1 .. one a move": n words from i on, which a writer stores into the slot (pair, index) and a reader loads from it.
+unfoldable pub eachWord : ℕ → ℕ → List Action
+eachWord i zero = []
+eachWord i (suc n) = (λ b c. record { bits = b; core = c; touched = Word i }) ∷ eachWord (suc i) n
 
-abbrev pub load : ℕ → Action
-load k b c = record { bits = b; core = c; word = Loaded k }
+-- The moves of a call: up to its slot, at the slot's words, and after them.
+pub record Procedure : Type 0 where
+  pub opening : List Action
+  pub words : List Action
+  pub closing : List Action
 
--- "words 0 to n-1 .. one a move": an action for each of n words from i on.
-unfoldable pub eachWord : (ℕ → Action) → ℕ → ℕ → List Action
-eachWord f i zero = []
-eachWord f i (suc n) = f i ∷ eachWord f (suc i) n
+abbrev pub moves : Procedure → List Action
+moves p = p .opening ++ (p .words ++ p .closing)
 
 pub data Side : Type 0 where
   Writer : Side
   Reader : Side
 
--- The moves of a call of either side, in order, for each width.
+-- The procedure of either side, for each width.
 abbrev pub Procedures : Type 0
-Procedures = Side → ℕ → List Action
+Procedures = Side → ℕ → Procedure
 
 unfoldable pub simpson : Procedures
 simpson Writer n =
-    setPair (λ b c. not (b .reading))
-    ∷ setIndex (λ b c. not (slotAt b (c .pair)))
-    ∷ (eachWord store 0 n ++ (setSlot (λ b c. c .index) ∷ setLatest (λ b c. c .pair) ∷ []))
+    record {
+      opening = setPair (λ b c. not (b .reading)) ∷ setIndex (λ b c. not (slotAt b (c .pair))) ∷ [];
+      words = eachWord 0 n;
+      closing = setSlot (λ b c. c .index) ∷ setLatest (λ b c. c .pair) ∷ [];
+    }
 simpson Reader n =
-    setPair (λ b c. b .latest)
-    ∷ setReading (λ b c. c .pair)
-    ∷ setIndex (λ b c. slotAt b (c .pair))
-    ∷ eachWord load 0 n
+    record {
+      opening = setPair (λ b c. b .latest) ∷ setReading (λ b c. c .pair) ∷ setIndex (λ b c. slotAt b (c .pair)) ∷ [];
+      words = eachWord 0 n;
+      closing = [];
+    }

@@ -29,27 +29,24 @@ pub struct Control {
     pub reader: Core,
 }
 
-// What a move does with a word: it stores word k of the writer's item into the slot (pair, index), or loads word k from there.
-pub enum Word {
-    Untouched,
-    Stored(usize),
-    Loaded(usize),
+// The word that a move touches: word k of its side's item, which a writer stores into the slot (pair, index) and a reader loads from it.
+pub enum Touched {
+    Nothing,
+    Word(usize),
 }
 
-// The event of a move, where it has one.
+// The event of a move: its call's, CW of a writer and CR of a reader; its return's, RW and RR; or none.
 pub enum Happened {
     NoEvent,
-    WriteCalled,
-    WriteReturned,
-    ReadCalled,
-    ReadReturned,
+    Called,
+    Returned,
 }
 
-// A move's answer: its event, what is done with which word, and the control part after it.
+// A move's answer and event, the word that it touches, and the control part after it.
 pub struct Step {
     pub answer: Answer,
     pub happened: Happened,
-    pub word: Word,
+    pub touched: Touched,
     pub control: Control,
 }
 
@@ -106,33 +103,33 @@ impl Control {
                 place: 0,
             },
             happened: Happened::NoEvent,
-            word: Word::Untouched,
+            touched: Touched::Nothing,
             control: self,
         }
     }
 
     // A move of the writer that leaves it at this phase.
-    fn writer_at(mut self, phase: usize, happened: Happened, word: Word) -> Step
-        ensures { λ r. ⌜ r ≡ accepted happened word (atPhase Writer phase self) ⌝ }
+    fn writer_at(mut self, phase: usize, happened: Happened, touched: Touched) -> Step
+        ensures { λ r. ⌜ r ≡ accepted happened touched (atPhase Writer phase self) ⌝ }
     {
         self.writer.phase = phase;
         Step {
             answer: Answer::Accepted { place: 0 },
             happened,
-            word,
+            touched,
             control: self,
         }
     }
 
     // A move of the reader that leaves it at this phase.
-    fn reader_at(mut self, phase: usize, happened: Happened, word: Word) -> Step
-        ensures { λ r. ⌜ r ≡ accepted happened word (atPhase Reader phase self) ⌝ }
+    fn reader_at(mut self, phase: usize, happened: Happened, touched: Touched) -> Step
+        ensures { λ r. ⌜ r ≡ accepted happened touched (atPhase Reader phase self) ⌝ }
     {
         self.reader.phase = phase;
         Step {
             answer: Answer::Accepted { place: 0 },
             happened,
-            word,
+            touched,
             control: self,
         }
     }
@@ -216,21 +213,21 @@ impl Control {
         let phase = self.writer.phase;
         match phase {
             0 => self.pair_not_reading()
-                .writer_at(1, Happened::WriteCalled, Word::Untouched),
+                .writer_at(1, Happened::Called, Touched::Nothing),
             1 => self.index_not_slot()
-                .writer_at(2, Happened::NoEvent, Word::Untouched),
+                .writer_at(2, Happened::NoEvent, Touched::Nothing),
             _ => {
                 let word = phase - 2;
                 let next = phase + 1;
                 if word < self.n {
-                    self.writer_at(next, Happened::NoEvent, Word::Stored(word))
+                    self.writer_at(next, Happened::NoEvent, Touched::Word(word))
                 } else {
                     let past = word - self.n;
                     match past {
                         0 => self.slot_index()
-                            .writer_at(next, Happened::NoEvent, Word::Untouched),
+                            .writer_at(next, Happened::NoEvent, Touched::Nothing),
                         _ => self.latest_pair()
-                            .writer_at(0, Happened::WriteReturned, Word::Untouched),
+                            .writer_at(0, Happened::Returned, Touched::Nothing),
                     }
                 }
             }
@@ -247,18 +244,18 @@ impl Control {
         let phase = self.reader.phase;
         match phase {
             0 => self.pair_latest()
-                .reader_at(1, Happened::ReadCalled, Word::Untouched),
+                .reader_at(1, Happened::Called, Touched::Nothing),
             1 => self.reading_pair()
-                .reader_at(2, Happened::NoEvent, Word::Untouched),
+                .reader_at(2, Happened::NoEvent, Touched::Nothing),
             2 => self.index_slot()
-                .reader_at(3, Happened::NoEvent, Word::Untouched),
+                .reader_at(3, Happened::NoEvent, Touched::Nothing),
             _ => {
                 let word = phase - 3;
                 let next = phase + 1;
                 if word + 1 < self.n {
-                    self.reader_at(next, Happened::NoEvent, Word::Loaded(word))
+                    self.reader_at(next, Happened::NoEvent, Touched::Word(word))
                 } else {
-                    self.reader_at(0, Happened::ReadReturned, Word::Loaded(word))
+                    self.reader_at(0, Happened::Returned, Touched::Word(word))
                 }
             }
         }

@@ -4,7 +4,7 @@ use Prim.Native.Nat.{ℕ, zero, suc}
 use mathlib.Core.List.{List, [], _∷_, _++_}
 use lib.ListN.{getD, take, replicate}
 use Rattle.control.specs.declared.Happened.{Happened}
-use Rattle.control.specs.declared.Happened.the-variants.{NoEvent, WriteCalled, WriteReturned, ReadCalled, ReadReturned}
+use Rattle.control.specs.declared.Happened.the-variants.{NoEvent, Called, Returned}
 use Rattle.control.specs.Simpson.{Side, Writer, Reader, Procedures}
 use Rattle.machine.specs.declared.State.{State}
 use Rattle.machine.specs.Machine.{writerMove, readerMove, fresh}
@@ -16,30 +16,31 @@ pub data Event : Type 0 where
   CR : Event
   RR : List ℕ → Event
 
-abbrev eventOf : Happened → List ℕ → List Event
-eventOf NoEvent item = []
-eventOf WriteCalled item = CW item ∷ []
-eventOf WriteReturned item = RW ∷ []
-eventOf ReadCalled item = CR ∷ []
-eventOf ReadReturned item = RR item ∷ []
+abbrev written : Happened → List ℕ → List Event
+written NoEvent item = []
+written Called item = CW item ∷ []
+written Returned item = RW ∷ []
 
--- The items that are left: a write called uses one up.
+abbrev read : Happened → List ℕ → List Event
+read NoEvent item = []
+read Called item = CR ∷ []
+read Returned item = RR item ∷ []
+
+-- The items that are left: a write called uses one up. Where none is left, a write of zeros is run: ITEMS is not looked for here.
 abbrev left : Happened → List (List ℕ) → List (List ℕ)
 left NoEvent items = items
-left WriteCalled [] = []
-left WriteCalled (v ∷ items) = items
-left WriteReturned items = items
-left ReadCalled items = items
-left ReadReturned items = items
+left Called [] = []
+left Called (v ∷ items) = items
+left Returned items = items
 
 abbrev events : Procedures → State → List (List ℕ) → List Side → List Event
 events ps s items [] = []
 events ps s items (Writer ∷ moves) =
     let m = writerMove ps s (getD items 0 []) in
-    eventOf (m .happened) (take (s .control .n) (m .item)) ++ events ps (m .state) (left (m .happened) items) moves
+    written (m .happened) (take (s .control .n) (m .item)) ++ events ps (m .state) (left (m .happened) items) moves
 events ps s items (Reader ∷ moves) =
     let m = readerMove ps s in
-    eventOf (m .happened) (take (s .control .n) (m .item)) ++ events ps (m .state) items moves
+    read (m .happened) (take (s .control .n) (m .item)) ++ events ps (m .state) items moves
 
 -- An item whose words are all x.
 abbrev pub all : ℕ → List ℕ

@@ -16,8 +16,8 @@ use Rattle.refusals.proofs.Lists.{sets-append}
 use Rattle.numbers.proofs.Bounds.{between-in, between-below, between-above}
 use Rattle.items.specs.Item.{eight}
 use Rattle.control.specs.declared.Control.{Control}
-use Rattle.control.specs.declared.Word.{Word}
-use Rattle.control.specs.declared.Word.the-variants.{Untouched, Stored, Loaded}
+use Rattle.control.specs.declared.Touched.{Touched}
+use Rattle.control.specs.declared.Touched.the-variants.{Nothing, Word}
 use Rattle.control.specs.Simpson.{Side, simpson}
 use Rattle.control.specs.Step.{sound, step, WordBelow}
 use Rattle.control.proofs.Sound.{sound-is}
@@ -92,22 +92,17 @@ module _ (v : List ℕ) (long : length v ≡ 8) where
   four-at k h = behind-at 3 k h
 
 -- The word that a step touches is one of its item's eight.
-below-eight : (w : Word) (n : ℕ) → n ≤ 8 → WordBelow n w → WordBelow 8 w
-below-eight Untouched n h b = tt
-below-eight (Stored k) n h b = omega arith
-below-eight (Loaded k) n h b = omega arith
+below-eight : (w : Touched) (n : ℕ) → n ≤ 8 → WordBelow n w → WordBelow 8 w
+below-eight Nothing n h b = tt
+below-eight (Word k) n h b = omega arith
 
-pub step-below : (side : Side) (c : Control) → WordBelow 8 (step simpson side c .word)
+pub step-below : (side : Side) (c : Control) → WordBelow 8 (step simpson side c .touched)
 step-below side c =
-    cases (sound simpson c) (λ e. below-eight (step simpson side c .word) (c .n) (sound-is c e .high) (word-below side c))
+    cases (sound simpson c) (λ e. below-eight (step simpson side c .touched) (c .n) (sound-is c e .high) (word-below side c))
     (λ e. rw (else-refused simpson side c e) tt)
 
-module _ {w : Word} {k : ℕ} (h : WordBelow 8 w) where
-  pub stored-below : w ≡ Stored k → k < 8
-  stored-below e = rw e at h
-
-  pub loaded-below : w ≡ Loaded k → k < 8
-  loaded-below e = rw e at h
+pub word-within : {w : Touched} {k : ℕ} → WordBelow 8 w → w ≡ Word k → k < 8
+word-within h e = rw e at h
 
 -- The start at a width, and at none.
 pub fresh-width : (n : ℕ) (v : List ℕ) → 1 ≤ n → n ≤ 8

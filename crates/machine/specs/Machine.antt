@@ -9,10 +9,10 @@ use Rattle.items.specs.Item.{isWidth, eight}
 use Rattle.control.specs.declared.Core.{Core}
 use Rattle.control.specs.declared.Control.{Control}
 use Rattle.control.specs.declared.Step.{Step}
-use Rattle.control.specs.declared.Word.{Word}
-use Rattle.control.specs.declared.Word.the-variants.{Untouched, Stored, Loaded}
+use Rattle.control.specs.declared.Touched.{Touched}
+use Rattle.control.specs.declared.Touched.the-variants.{Nothing, Word}
 use Rattle.control.specs.declared.Happened.{Happened}
-use Rattle.control.specs.declared.Happened.the-variants.{NoEvent, WriteCalled, WriteReturned, ReadCalled, ReadReturned}
+use Rattle.control.specs.declared.Happened.the-variants.{NoEvent, Called, Returned}
 use Rattle.control.specs.Simpson.{Writer, Reader, Procedures}
 use Rattle.control.specs.Step.{step, idle}
 use Rattle.machine.specs.declared.State.{State}
@@ -23,66 +23,61 @@ use Rattle.machine.specs.declared.Started.{Started}
 abbrev pub firstWords : ℕ → List ℕ → List ℕ
 firstWords n v = eight (take n v)
 
--- Where word k of the slot (pair, index) stands.
-abbrev pub place : Bool → Bool → ℕ → ℕ
-place false false k = k
-place false true k = 8 + k
-place true false k = 16 + k
-place true true k = 24 + k
+-- "Four slots are named by a pair bit and an index bit": where word k of the slot (pair, index) stands.
+abbrev pub slotWord : Bool → Bool → ℕ → ℕ
+slotWord false false k = k
+slotWord false true k = 8 + k
+slotWord true false k = 16 + k
+slotWord true true k = 24 + k
 
--- The slots after a move of the writer: a store takes a word of the writer's item.
-abbrev pub slotsAfter : Word → Core → List ℕ → List ℕ → List ℕ
-slotsAfter Untouched c slots item = slots
-slotsAfter (Stored k) c slots item = set slots (place (c .pair) (c .index) k) (getD item k 0)
-slotsAfter (Loaded k) c slots item = slots
+-- The slots after a move that leaves the writer so: the word that is touched is stored.
+abbrev pub stored : Touched → Core → List ℕ → List ℕ → List ℕ
+stored Nothing c slots item = slots
+stored (Word k) c slots item = set slots (slotWord (c .pair) (c .index) k) (getD item k 0)
 
--- The reader's item after a move of the reader: "each load replaces one word".
-abbrev pub loadedAfter : Word → Core → List ℕ → List ℕ → List ℕ
-loadedAfter Untouched c slots item = item
-loadedAfter (Stored k) c slots item = item
-loadedAfter (Loaded k) c slots item = set item k (getD slots (place (c .pair) (c .index) k) 0)
+-- The reader's item after a move that leaves the reader so: "each load replaces one word".
+abbrev pub loaded : Touched → Core → List ℕ → List ℕ → List ℕ
+loaded Nothing c slots item = item
+loaded (Word k) c slots item = set item k (getD slots (slotWord (c .pair) (c .index) k) 0)
 
--- The writer's item after a move of the writer: "take the item in" when a write is called.
-abbrev pub takenIn : Happened → ℕ → List ℕ → List ℕ → List ℕ
-takenIn NoEvent n v item = item
-takenIn WriteCalled n v item = firstWords n v
-takenIn WriteReturned n v item = item
-takenIn ReadCalled n v item = item
-takenIn ReadReturned n v item = item
+-- "CW (write called, with its item), RW (write returned), CR (read called), RR (read returned, with its item)": where the two items stand.
+abbrev pub isCall : Happened → Bool
+isCall NoEvent = false
+isCall Called = true
+isCall Returned = false
 
--- "CW (write called, with its item), RW (write returned), CR (read called), RR (read returned, with its item)"
-abbrev pub shown : Happened → ℕ → List ℕ → List ℕ
-shown NoEvent n item = eight []
-shown WriteCalled n item = item
-shown WriteReturned n item = eight []
-shown ReadCalled n item = eight []
-shown ReadReturned n item = firstWords n item
+abbrev pub isReturn : Happened → Bool
+isReturn NoEvent = false
+isReturn Called = false
+isReturn Returned = true
 
 -- The state after a move of the writer, and after one of the reader.
-abbrev pub afterWriter : State → Control → List ℕ → List ℕ → State
-afterWriter s control slots taken = record { control = control; slots = slots; taken = taken; loaded = s .loaded }
+abbrev pub withWriter : State → Control → List ℕ → List ℕ → State
+withWriter s control slots taken = record { control = control; slots = slots; taken = taken; loaded = s .loaded }
 
-abbrev pub afterReader : State → Control → List ℕ → State
-afterReader s control loaded = record { control = control; slots = s .slots; taken = s .taken; loaded = loaded }
+abbrev pub withReader : State → Control → List ℕ → State
+withReader s control loaded = record { control = control; slots = s .slots; taken = s .taken; loaded = loaded }
 
--- A move's answer: that of its step, with the item of its event.
-abbrev pub moved : Step → ℕ → List ℕ → State → Moved
-moved t n item s = record { answer = t .answer; happened = t .happened; item = shown (t .happened) n item; state = s }
+-- What a step of the control part makes of a state: the writer "take[s] the item in" at a call, and CW has the copy taken.
+unfoldable pub writerAfter : Step → State → List ℕ → Moved
+writerAfter t s v =
+    let taken = cond (isCall (t .happened)) (firstWords (s .control .n) v) (s .taken) in
+    let slots = stored (t .touched) (t .control .writer) (s .slots) taken in
+    let item = cond (isCall (t .happened)) taken (eight []) in
+    record { answer = t .answer; happened = t .happened; item = item; state = withWriter s (t .control) slots taken }
 
-unfoldable pub writerMove : Procedures → State → List ℕ → Moved
-writerMove ps s v =
-    let n = s .control .n in
-    let t = step ps Writer (s .control) in
-    let taken = takenIn (t .happened) n v (s .taken) in
-    let slots = slotsAfter (t .word) (t .control .writer) (s .slots) taken in
-    moved t n taken (afterWriter s (t .control) slots taken)
+-- RR has the first n words loaded.
+unfoldable pub readerAfter : Step → State → Moved
+readerAfter t s =
+    let read = loaded (t .touched) (t .control .reader) (s .slots) (s .loaded) in
+    let item = cond (isReturn (t .happened)) (firstWords (s .control .n) read) (eight []) in
+    record { answer = t .answer; happened = t .happened; item = item; state = withReader s (t .control) read }
 
-unfoldable pub readerMove : Procedures → State → Moved
-readerMove ps s =
-    let n = s .control .n in
-    let t = step ps Reader (s .control) in
-    let loaded = loadedAfter (t .word) (t .control .reader) (s .slots) (s .loaded) in
-    moved t n loaded (afterReader s (t .control) loaded)
+abbrev pub writerMove : Procedures → State → List ℕ → Moved
+writerMove ps s v = writerAfter (step ps Writer (s .control)) s v
+
+abbrev pub readerMove : Procedures → State → Moved
+readerMove ps s = readerAfter (step ps Reader (s .control)) s
 
 -- "all bits 0, both cores idle, .. all locals 0"
 abbrev pub idleState : ℕ → List ℕ → State

@@ -2,14 +2,18 @@
 use control::Control;
 use control::Core;
 use control::Happened;
-use control::Word;
+use control::Step;
+use control::Touched;
 use refusals::Answer;
 use refusals::Fault;
 ghost use mathlib.Core.Path.{_≡_};
+ghost use mathlib.Core.Bool.{cond};
+ghost use mathlib.Core.List.{[]};
 ghost use Prim.Native.Nat.{_<_};
+ghost use Rattle.items.specs.Item.{eight};
 ghost use Rattle.control.specs.Simpson.{simpson};
 ghost use Rattle.control.specs.Step.{WordBelow};
-ghost use Rattle.machine.specs.Machine.{firstWords, place, slotsAfter, loadedAfter, takenIn, shown, afterWriter, afterReader, writerMove, readerMove, idleState, inAllFour, fresh};
+ghost use Rattle.machine.specs.Machine.{firstWords, slotWord, stored, loaded, isCall, isReturn, withWriter, withReader, writerAfter, readerAfter, writerMove, readerMove, idleState, inAllFour, fresh};
 
 // The control part, the words of the four slots, the item that the writer has taken in, and the words that the reader has loaded.
 // Word k of the slot (pair, index) stands at 16 * pair + 8 * index + k.
@@ -48,9 +52,9 @@ fn first_words(item: [u32; 8], n: usize) -> [u32; 8]
 }
 
 // Where word k of the slot (pair, index) stands.
-fn place_of(pair: bool, index: bool, k: usize) -> usize
+fn slot_word(pair: bool, index: bool, k: usize) -> usize
     requires { ⌜ k < 8 ⌝ }
-    ensures { λ r. ⌜ (r ≡ place pair index k) × (r < 32) ⌝ }
+    ensures { λ r. ⌜ (r ≡ slotWord pair index k) × (r < 32) ⌝ }
 {
     if pair {
         if index { 24 + k } else { 16 + k }
@@ -59,33 +63,31 @@ fn place_of(pair: bool, index: bool, k: usize) -> usize
     }
 }
 
-// The slots after a move of the writer.
-fn slots_after(word: Word, core: Core, slots: [u32; 32], item: [u32; 8]) -> [u32; 32]
-    requires { ⌜ WordBelow 8 word ⌝ }
-    ensures { λ r. ⌜ r ≡ slotsAfter word core slots item ⌝ }
+// The slots after a move that leaves the writer so.
+fn stored(touched: Touched, core: Core, slots: [u32; 32], item: [u32; 8]) -> [u32; 32]
+    requires { ⌜ WordBelow 8 touched ⌝ }
+    ensures { λ r. ⌜ r ≡ stored touched core slots item ⌝ }
 {
-    match word {
-        Word::Untouched => slots,
-        Word::Stored(k) => {
-            let at = place_of(core.pair, core.index, k);
+    match touched {
+        Touched::Nothing => slots,
+        Touched::Word(k) => {
+            let at = slot_word(core.pair, core.index, k);
             let mut after = slots;
             after[at] = item[k];
             after
         }
-        Word::Loaded(_) => slots,
     }
 }
 
-// The reader's item after a move of the reader.
-fn loaded_after(word: Word, core: Core, slots: [u32; 32], item: [u32; 8]) -> [u32; 8]
-    requires { ⌜ WordBelow 8 word ⌝ }
-    ensures { λ r. ⌜ r ≡ loadedAfter word core slots item ⌝ }
+// The reader's item after a move that leaves the reader so.
+fn loaded(touched: Touched, core: Core, slots: [u32; 32], item: [u32; 8]) -> [u32; 8]
+    requires { ⌜ WordBelow 8 touched ⌝ }
+    ensures { λ r. ⌜ r ≡ loaded touched core slots item ⌝ }
 {
-    match word {
-        Word::Untouched => item,
-        Word::Stored(_) => item,
-        Word::Loaded(k) => {
-            let at = place_of(core.pair, core.index, k);
+    match touched {
+        Touched::Nothing => item,
+        Touched::Word(k) => {
+            let at = slot_word(core.pair, core.index, k);
             let mut after = item;
             after[k] = slots[at];
             after
@@ -93,29 +95,36 @@ fn loaded_after(word: Word, core: Core, slots: [u32; 32], item: [u32; 8]) -> [u3
     }
 }
 
-// The writer's item after a move of the writer, to which another was handed.
+// The writer's item after a move to which an item was handed: a call takes it in.
 fn taken_in(happened: Happened, n: usize, handed: [u32; 8], item: [u32; 8]) -> [u32; 8]
-    ensures { λ r. ⌜ r ≡ takenIn happened n handed item ⌝ }
+    ensures { λ r. ⌜ r ≡ cond (isCall happened) (firstWords n handed) item ⌝ }
 {
     match happened {
         Happened::NoEvent => item,
-        Happened::WriteCalled => first_words(handed, n),
-        Happened::WriteReturned => item,
-        Happened::ReadCalled => item,
-        Happened::ReadReturned => item,
+        Happened::Called => first_words(handed, n),
+        Happened::Returned => item,
     }
 }
 
-// The item beside an event: the copy that a write took in, the first n words that a read loaded, zeros otherwise.
-fn shown(happened: Happened, n: usize, item: [u32; 8]) -> [u32; 8]
-    ensures { λ r. ⌜ r ≡ shown happened n item ⌝ }
+// The item beside a writer's event: the copy taken in at a call, else zeros.
+fn called_with(happened: Happened, item: [u32; 8]) -> [u32; 8]
+    ensures { λ r. ⌜ r ≡ cond (isCall happened) item (eight []) ⌝ }
 {
     match happened {
         Happened::NoEvent => [0; 8],
-        Happened::WriteCalled => item,
-        Happened::WriteReturned => [0; 8],
-        Happened::ReadCalled => [0; 8],
-        Happened::ReadReturned => first_words(item, n),
+        Happened::Called => item,
+        Happened::Returned => [0; 8],
+    }
+}
+
+// The item beside a reader's event: the first n words loaded at a return, else zeros.
+fn returned_with(happened: Happened, n: usize, item: [u32; 8]) -> [u32; 8]
+    ensures { λ r. ⌜ r ≡ cond (isReturn happened) (firstWords n item) (eight []) ⌝ }
+{
+    match happened {
+        Happened::NoEvent => [0; 8],
+        Happened::Called => [0; 8],
+        Happened::Returned => first_words(item, n),
     }
 }
 
@@ -169,9 +178,9 @@ impl State {
         }
     }
 
-    // The state with this control part, these slots and this item of the writer.
-    fn after_writer(self, control: Control, slots: [u32; 32], taken: [u32; 8]) -> State
-        ensures { λ r. ⌜ r ≡ afterWriter self control slots taken ⌝ }
+    // The state after a move of the writer.
+    fn with_writer(self, control: Control, slots: [u32; 32], taken: [u32; 8]) -> State
+        ensures { λ r. ⌜ r ≡ withWriter self control slots taken ⌝ }
     {
         let loaded = self.loaded;
         State {
@@ -182,33 +191,40 @@ impl State {
         }
     }
 
-    // One move of the writer. An idle writer takes the item in; of another it is ignored. STATE, and the state that came in, where
+    // What a step of the control part makes of the state, where it is the writer's.
+    fn writer_after(self, step: Step, item: [u32; 8]) -> Moved
+        requires { ⌜ WordBelow 8 (step .touched) ⌝ }
+        ensures { λ r. ⌜ r ≡ writerAfter step self item ⌝ }
+    {
+        let happened = step.happened;
+        let kept = self.taken;
+        let taken = taken_in(happened, self.control.n, item, kept);
+        let touched = step.touched;
+        let control = step.control;
+        let before = self.slots;
+        let slots = stored(touched, control.writer, before, taken);
+        let answer = step.answer;
+        Moved {
+            answer,
+            happened,
+            item: called_with(happened, taken),
+            state: self.with_writer(control, slots, taken),
+        }
+    }
+
+    // One move of the writer. An idle writer takes the item in; a writer in a call ignores it. STATE, and the state that came in, where
     // the width is outside 1 to 8 or either core's phase is past its call's last move.
     pub fn writer_move(self, item: [u32; 8]) -> Moved
         ensures { λ r. ⌜ r ≡ writerMove simpson self item ⌝ }
     {
         let control = self.control;
-        let n = control.n;
         let step = control.writer_move();
-        let answer = step.answer;
-        let happened = step.happened;
-        let word = step.word;
-        let after = step.control;
-        let kept = self.taken;
-        let taken = taken_in(happened, n, item, kept);
-        let before = self.slots;
-        let slots = slots_after(word, after.writer, before, taken);
-        Moved {
-            answer,
-            happened,
-            item: shown(happened, n, taken),
-            state: self.after_writer(after, slots, taken),
-        }
+        self.writer_after(step, item)
     }
 
-    // The state with this control part and this item of the reader.
-    fn after_reader(self, control: Control, loaded: [u32; 8]) -> State
-        ensures { λ r. ⌜ r ≡ afterReader self control loaded ⌝ }
+    // The state after a move of the reader.
+    fn with_reader(self, control: Control, loaded: [u32; 8]) -> State
+        ensures { λ r. ⌜ r ≡ withReader self control loaded ⌝ }
     {
         let slots = self.slots;
         let taken = self.taken;
@@ -220,25 +236,32 @@ impl State {
         }
     }
 
+    // What a step of the control part makes of the state, where it is the reader's.
+    fn reader_after(self, step: Step) -> Moved
+        requires { ⌜ WordBelow 8 (step .touched) ⌝ }
+        ensures { λ r. ⌜ r ≡ readerAfter step self ⌝ }
+    {
+        let touched = step.touched;
+        let control = step.control;
+        let slots = self.slots;
+        let kept = self.loaded;
+        let read = loaded(touched, control.reader, slots, kept);
+        let happened = step.happened;
+        let answer = step.answer;
+        Moved {
+            answer,
+            happened,
+            item: returned_with(happened, self.control.n, read),
+            state: self.with_reader(control, read),
+        }
+    }
+
     // One move of the reader. STATE as for the writer.
     pub fn reader_move(self) -> Moved
         ensures { λ r. ⌜ r ≡ readerMove simpson self ⌝ }
     {
         let control = self.control;
-        let n = control.n;
         let step = control.reader_move();
-        let answer = step.answer;
-        let happened = step.happened;
-        let word = step.word;
-        let after = step.control;
-        let kept = self.loaded;
-        let slots = self.slots;
-        let loaded = loaded_after(word, after.reader, slots, kept);
-        Moved {
-            answer,
-            happened,
-            item: shown(happened, n, loaded),
-            state: self.after_reader(after, loaded),
-        }
+        self.reader_after(step)
     }
 }

@@ -16,12 +16,6 @@ first-words-requires c κs = search needs
 enum-told-3 : tie.Need-enum-told-3
 enum-told-3 c = search needs
 
-enum-told-4 : tie.Need-enum-told-4
-enum-told-4 c = search needs
-
-enum-told-5 : tie.Need-enum-told-5
-enum-told-5 c = search needs
-
 returns : tie.Need-returns
 returns c = search needs
 
@@ -31,24 +25,7 @@ returns-2 c = rw (c .before .enum-told2 .given .1) (c .first-words .ensures)
 returns-3 : tie.Need-returns-3
 returns-3 c = search needs
 
-returns-4 : tie.Need-returns-4
-returns-4 c = search needs
-
-returns-5 : tie.Need-returns-5
-returns-5 c = search needs
-
 pub taken-in-spec : {M : Type 1} → statement M
 taken-in-spec =
     tie.close
-    (tie.spec
-    enum-told
-    enum-told-2
-    first-words-requires
-    enum-told-3
-    enum-told-4
-    enum-told-5
-    returns
-    returns-2
-    returns-3
-    returns-4
-    returns-5)
+    (tie.spec enum-told enum-told-2 first-words-requires enum-told-3 returns returns-2 returns-3)

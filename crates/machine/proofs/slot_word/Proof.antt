@@ -1,9 +1,9 @@
--- `machine::place_of` meets its contract.
+-- `machine::slot_word` meets its contract.
 -- Assumes nothing.
 use native.Mathlib.Omega.{arith}
 use borrow.Author.Needs.{needs}
-use Rattle.machine.proofs.place_of.Statement.{statement}
-use Rattle.machine.proofs.place_of.Tie as tie
+use Rattle.machine.proofs.slot_word.Statement.{statement}
+use Rattle.machine.proofs.slot_word.Tie as tie
 
 add-result : tie.Need-add-result
 add-result c = search needs
@@ -26,6 +26,6 @@ returns-3 c = (cc, omega arith)
 returns-4 : tie.Need-returns-4
 returns-4 c = search needs
 
-pub place-of-spec : {M : Type 1} → statement M
-place-of-spec =
+pub slot-word-spec : {M : Type 1} → statement M
+slot-word-spec =
     tie.close (tie.spec add-result add-result-2 add-result-3 returns returns-2 returns-3 returns-4)

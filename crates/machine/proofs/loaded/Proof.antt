@@ -1,0 +1,48 @@
+-- `machine::loaded` meets its contract.
+-- Assumes nothing.
+use native.Mathlib.Omega.{arith}
+use Rattle.machine.proofs.Words.{word-within}
+use borrow.Author.Needs.{needs}
+use Rattle.machine.proofs.loaded.Statement.{statement}
+use Rattle.machine.proofs.loaded.Tie as tie
+
+enum-told : tie.Need-enum-told
+enum-told c = search needs
+
+enum-known-touched : tie.Need-enum-known-touched
+enum-known-touched c = search needs
+
+slot-word-requires : tie.Need-slot-word-requires
+slot-word-requires c κs = word-within (c .before .before .before .pre) (c .before .touched .given .1)
+
+mul-after : tie.Need-mul-after
+mul-after c = search needs
+
+array-read-after : tie.Need-array-read-after
+array-read-after c = search needs
+
+mul-after-2 : tie.Need-mul-after-2
+mul-after-2 c = omega (arith, word-within (c .before .before .before .before .pre) (c .before .before .touched .given .1))
+
+array-write-after : tie.Need-array-write-after
+array-write-after c = word-within (c .before .before .before .before .pre) (c .before .before .touched .given .1)
+
+returns : tie.Need-returns
+returns c = search needs
+
+returns-2 : tie.Need-returns-2
+returns-2 c = rw (c .before .before .touched .given .1, c .slot-word .ensures .0)
+
+pub loaded-spec : {M : Type 1} → statement M
+loaded-spec =
+    tie.close
+    (tie.spec
+    enum-told
+    enum-known-touched
+    slot-word-requires
+    mul-after
+    array-read-after
+    mul-after-2
+    array-write-after
+    returns
+    returns-2)
