@@ -8,12 +8,7 @@ use mathlib.Core.Bool.{not}
 use mathlib.Core.List.{List, _++_}
 use lib.ListN.{length, getD, length-append}
 use lib.Seq.{getD-append-add}
-use Rattle.control.specs.declared.Touched.the-variants.{Word}
-use Rattle.control.specs.Simpson.{Action, stay, slotAt, setPair, setIndex, setSlot, setLatest, setReading, eachWord, moves, Side, Writer, Reader, Procedures, simpson}
-
--- The action on word k.
-abbrev pub word : ℕ → Action
-word k b c = record { bits = b; core = c; touched = Word k }
+use Rattle.control.specs.Simpson.{Action, stay, slotAt, setPair, setIndex, setSlot, setLatest, setReading, word, eachWord, moves, Side, Writer, Reader, Procedures, simpson}
 
 -- An action for each word, and what comes after them.
 each-at : (i n k : ℕ) (rest : List Action) → k < n → getD (eachWord i n ++ rest) k stay ≡ word (i + k)

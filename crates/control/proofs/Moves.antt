@@ -12,9 +12,9 @@ use Rattle.items.specs.Item.{isWidth}
 use Rattle.control.specs.declared.Bits.{Bits}
 use Rattle.control.specs.declared.Core.{Core}
 use Rattle.control.specs.declared.Control.{Control}
-use Rattle.control.specs.Simpson.{Action, stay, slotAt, setPair, setIndex, setSlot, setLatest, setReading, eachWord, Side, Writer, Reader, simpson}
+use Rattle.control.specs.Simpson.{Action, stay, slotAt, setPair, setIndex, setSlot, setLatest, setReading, word, eachWord, Side, Writer, Reader, simpson}
 use Rattle.control.specs.Step.{coreOf, sound, step, idle, WordBelow}
-use Rattle.control.proofs.Lists.{word, actionAt}
+use Rattle.control.proofs.Lists.{actionAt}
 use Rattle.control.proofs.Sound.{sound-yes}
 use Rattle.control.proofs.Steps.{step-at}
 use Rattle.control.proofs.Always.{else-refused}

@@ -43,10 +43,14 @@ setLatest x b c = stay (record { latest = x b c; reading = b .reading; slot0 = b
 abbrev pub setReading : (Bits → Core → Bool) → Action
 setReading x b c = stay (record { latest = b .latest; reading = x b c; slot0 = b .slot0; slot1 = b .slot1 }) c
 
--- "words 0 to n-1 .. one a move": n words from i on, which a writer stores into the slot (pair, index) and a reader loads from it.
+-- Word k of the mover's item: a writer stores it into the slot (pair, index), a reader loads it from there.
+abbrev pub word : ℕ → Action
+word k b c = record { bits = b; core = c; touched = Word k }
+
+-- "words 0 to n-1 .. one a move": n words from i on.
 unfoldable pub eachWord : ℕ → ℕ → List Action
 eachWord i zero = []
-eachWord i (suc n) = (λ b c. record { bits = b; core = c; touched = Word i }) ∷ eachWord (suc i) n
+eachWord i (suc n) = word i ∷ eachWord (suc i) n
 
 -- The moves of a call: up to its slot, at the slot's words, and after them.
 pub record Procedure : Type 0 where

@@ -53,6 +53,7 @@ sound ps c =
     let within : Side → Bool = λ side. ltb (coreOf side c .phase) (length (moves (ps side (c .n)))) in
     isWidth (c .n) && (within Writer && within Reader)
 
+-- "a single move that is accepted gives place 0"
 abbrev pub accepted : Happened → Touched → Control → Step
 accepted h w c = record { answer = Accepted 0; happened = h; touched = w; control = c }
 

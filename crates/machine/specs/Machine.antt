@@ -73,6 +73,7 @@ readerAfter t s =
     let item = cond (isReturn (t .happened)) (firstWords (s .control .n) read) (eight []) in
     record { answer = t .answer; happened = t .happened; item = item; state = withReader s (t .control) read }
 
+-- A move of the writer, to which an item is handed, and a move of the reader.
 abbrev pub writerMove : Procedures → State → List ℕ → Moved
 writerMove ps s v = writerAfter (step ps Writer (s .control)) s v
 
