@@ -4,3 +4,4 @@ pub mod Bytes
 pub mod Exactly
 pub mod Forms
 pub mod Examples
+pub mod Parts
