@@ -15,7 +15,7 @@ use Rattle.control.specs.Step.{step, WordBelow}
 use Rattle.control.proofs.Moves.{word-below}
 use Rattle.machine.specs.declared.State.{State}
 use Rattle.machine.specs.Machine.{firstWords, slotWord, stored, isCall, inAllFour, writerAfter, writerMove}
-use Rattle.machine.proofs.Words.{four-at}
+use Rattle.machine.proofs.Words.{four-at, word-within}
 
 -- "Four slots are named by a pair bit and an index bit": no two words of the slots have one place.
 pub slots-apart : (p q i j : Bool) (k l : ℕ) → k < 8 → l < 8 → slotWord p i k ≡ slotWord q j l → (p ≡ q) × (i ≡ j) × (k ≡ l)
@@ -41,6 +41,10 @@ slots-within false false k h = omega arith
 slots-within false true k h = omega arith
 slots-within true false k h = omega arith
 slots-within true true k h = omega arith
+
+-- Where the word that is touched stands, among 32.
+pub touched-within : {w : Touched} {k at : ℕ} (p i : Bool) → WordBelow 8 w → w ≡ Word k → at ≡ slotWord p i k → at < 32
+touched-within {w} {k} p i h e is = rw is (slots-within p i k (word-within h e))
 
 -- "all four slots hold the initial item"
 pub four-hold : (v : List ℕ) (p i : Bool) (k : ℕ) → length v ≡ 8 → k < 8 → getD (inAllFour v) (slotWord p i k) 0 ≡ getD v k 0

@@ -52,14 +52,14 @@ fn first_words(item: [u32; 8], n: usize) -> [u32; 8]
 }
 
 // Where word k of the slot (pair, index) stands.
-fn slot_word(pair: bool, index: bool, k: usize) -> usize
-    requires { ⌜ k < 8 ⌝ }
-    ensures { λ r. ⌜ (r ≡ slotWord pair index k) × (r < 32) ⌝ }
+pub fn slot_word(pair: bool, index: bool, k: u32) -> usize
+    ensures { λ r. ⌜ r ≡ slotWord pair index k ⌝ }
 {
+    let word = k as usize;
     if pair {
-        if index { 24 + k } else { 16 + k }
+        if index { 24 + word } else { 16 + word }
     } else {
-        if index { 8 + k } else { k }
+        if index { 8 + word } else { word }
     }
 }
 
@@ -71,7 +71,7 @@ fn stored(touched: Touched, core: Core, slots: [u32; 32], item: [u32; 8]) -> [u3
     match touched {
         Touched::Nothing => slots,
         Touched::Word(k) => {
-            let at = slot_word(core.pair, core.index, k);
+            let at = slot_word(core.pair, core.index, k as u32);
             let mut after = slots;
             after[at] = item[k];
             after
@@ -87,7 +87,7 @@ fn loaded(touched: Touched, core: Core, slots: [u32; 32], item: [u32; 8]) -> [u3
     match touched {
         Touched::Nothing => item,
         Touched::Word(k) => {
-            let at = slot_word(core.pair, core.index, k);
+            let at = slot_word(core.pair, core.index, k as u32);
             let mut after = item;
             after[k] = slots[at];
             after

@@ -1,6 +1,5 @@
 -- `machine::slot_word` meets its contract.
 -- Assumes nothing.
-use native.Mathlib.Omega.{arith}
 use borrow.Author.Needs.{needs}
 use Rattle.machine.proofs.slot_word.Statement.{statement}
 use Rattle.machine.proofs.slot_word.Tie as tie
@@ -15,13 +14,13 @@ add-result-3 : tie.Need-add-result-3
 add-result-3 c = search needs
 
 returns : tie.Need-returns
-returns c = (cc, omega arith)
+returns c = cc
 
 returns-2 : tie.Need-returns-2
-returns-2 c = (cc, omega arith)
+returns-2 c = cc
 
 returns-3 : tie.Need-returns-3
-returns-3 c = (cc, omega arith)
+returns-3 c = cc
 
 returns-4 : tie.Need-returns-4
 returns-4 c = search needs
