@@ -12,6 +12,7 @@ use Rattle.refusals.specs.declared.Fault.{Fault}
 use Rattle.refusals.specs.declared.Fault.the-variants.{Room}
 use Rattle.refusals.specs.declared.Answer.{Answer}
 use Rattle.refusals.specs.declared.Answer.the-variants.{Accepted, Refused}
+use Rattle.refusals.specs.Table.{answerPlace}
 use Rattle.refusals.specs.Output.{roomAnswer, putAnswer, leaves}
 use Rattle.refusals.proofs.Apart.{apart}
 
@@ -52,3 +53,8 @@ module _ (out : List ℕ) (at : ℕ) (bytes : List ℕ) {k : ℕ} {answer : Answ
 pub put-fits : (out : List ℕ) (at : ℕ) (bytes : List ℕ) {answer : Answer} {left : List ℕ} → at + length bytes ≤ length out
     → Put out at bytes answer left → left ≡ sets out at bytes
 put-fits out at bytes {answer} h p = p .1 ∙ ap (λ (a : Answer). leaves a out at bytes) (p .0 ∙ room-enough (length out) at (length bytes) h)
+
+-- Its answer's place is then their length.
+pub put-place : (out : List ℕ) (at : ℕ) (bytes : List ℕ) {answer : Answer} {left : List ℕ} {k : ℕ} → at + length bytes ≤ length out
+    → Put out at bytes answer left → k ≡ answerPlace answer → k ≡ length bytes
+put-place out at bytes h p e = e ∙ ap answerPlace (p .0 ∙ room-enough (length out) at (length bytes) h)

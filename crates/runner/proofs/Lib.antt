@@ -1,11 +1,5 @@
-pub mod Runs
-pub mod Four
-pub mod Turns
-pub mod Cost
-pub mod Fitting
 pub mod Steps
 pub mod View
 pub mod Standing
 pub mod Ends
-pub mod Bounds
 pub mod Accepted

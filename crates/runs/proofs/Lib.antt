@@ -1,0 +1,6 @@
+pub mod Runs
+pub mod Four
+pub mod Turns
+pub mod Cost
+pub mod Fitting
+pub mod Bounds

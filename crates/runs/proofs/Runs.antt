@@ -1,0 +1,82 @@
+-- Laws of runs, whatever the machine is.
+-- Assumes nothing.
+use Prim.Native.Nat.{ℕ, suc}
+use mathlib.Core.Path.{_≡_, refl}
+use mathlib.Core.Bool.{Bool, true, false}
+use mathlib.Core.List.{List, [], _∷_, _++_}
+use Rattle.refusals.specs.declared.Fault.the-variants.{Items}
+use Rattle.refusals.proofs.Apart.{apart}
+use Rattle.items.specs.Item.{eight}
+use Rattle.history.specs.Event.{Event}
+use Rattle.runs.specs.Run.{Bench, Outcome, Stopped, Ran, before, dealt, run}
+
+-- How a move was dealt with: it took the next item, or none.
+pub data Deal {S : Type 0} (b : Bench S) (s : S) (code : ℕ) (items : List (List ℕ)) (x : List ℕ) (left : List (List ℕ)) : Type 0 where
+  Took : b .takes s code ≡ true → items ≡ x ∷ left → Deal b s code items x left
+  Skipped : b .takes s code ≡ false → x ≡ eight [] → items ≡ left → Deal b s code items x left
+
+ran-before : (es : List Event) (o : Outcome) {fs : List Event} → before es o ≡ Ran fs
+    → (gs : List Event) × (o ≡ Ran gs) × (es ++ gs ≡ fs)
+ran-before es (Stopped f k) e = apart cc
+ran-before es (Ran gs) {fs} e =
+    let same : es ++ gs ≡ fs = cc in
+    (gs, refl, same)
+
+-- What holds of no moves, and of a move and those after it where it holds of these, holds of every run that ends with its events.
+pub run-all : {S : Type 0} (b : Bench S) (I : S → List (List ℕ) → Type 0) (P : S → List (List ℕ) → List ℕ → List Event → Type 0)
+    → ((s : S) (items : List (List ℕ)) → I s items → P s items [] [])
+    → ((s : S) (items : List (List ℕ)) (code : ℕ) (x : List ℕ) (left : List (List ℕ)) → I s items → Deal b s code items x left
+    → I (b .move s code x .state) left
+    × ((codes : List ℕ) (es : List Event) → P (b .move s code x .state) left codes es → P s items (code ∷ codes) (b .move s code x .events ++ es)))
+    → (s : S) (k : ℕ) (items : List (List ℕ)) (codes : List ℕ) (es : List Event) → I s items → run b s k items codes ≡ Ran es
+    → P s items codes es
+unfolding run
+run-all b I P none more s k items [] es i e =
+    let same : es ≡ [] = cc in
+    rw same (none s items i)
+run-all {S} b I P none more s k items (code ∷ codes) es i e =
+    go (b .takes s code) items refl refl e (λ t left fs j f. run-all b I P none more t (suc k) left codes fs j f)
+  where
+    onward : (x : List ℕ) (left : List (List ℕ)) → Deal b s code items x left
+        → before (b .move s code x .events) (run b (b .move s code x .state) (suc k) left codes) ≡ Ran es
+        → ((t : S) (rest : List (List ℕ)) (fs : List Event) → I t rest → run b t (suc k) rest codes ≡ Ran fs → P t rest codes fs)
+        → P s items (code ∷ codes) es
+    onward x left d f ih =
+        let here = more s items code x left i d in
+        let found = ran-before (b .move s code x .events) (run b (b .move s code x .state) (suc k) left codes) f in
+        rw (← found .2) (here .1 codes (found .0) (ih (b .move s code x .state) left (found .0) (here .0) (found .1)))
+
+    go : (t : Bool) (list : List (List ℕ)) → b .takes s code ≡ t → items ≡ list
+        → dealt (Stopped Items k) t list (λ x left.
+        before (b .move s code x .events) (run b (b .move s code x .state) (suc k) left codes)) ≡ Ran es
+        → ((t : S) (rest : List (List ℕ)) (fs : List Event) → I t rest → run b t (suc k) rest codes ≡ Ran fs → P t rest codes fs)
+        → P s items (code ∷ codes) es
+    go true [] h l f ih = apart cc
+    go true (x ∷ left) h l f ih = onward x left (Took h l) f ih
+    go false list h l f ih = onward (eight []) list (Skipped h refl l) f ih
+
+-- Items left over leave no trace: a run that ends with its events ends with the same ones where more items follow.
+pub run-leftover : {S : Type 0} (b : Bench S) (s : S) (k : ℕ) (items more : List (List ℕ)) (codes : List ℕ) (es : List Event)
+    → run b s k items codes ≡ Ran es → run b s k (items ++ more) codes ≡ Ran es
+unfolding run
+run-leftover b s k items more [] es e = e
+run-leftover {S} b s k items more (code ∷ codes) es e =
+    go (b .takes s code) items e (λ t left fs f. run-leftover b t (suc k) left more codes fs f)
+  where
+    onward : (x : List ℕ) (left : List (List ℕ))
+        → before (b .move s code x .events) (run b (b .move s code x .state) (suc k) left codes) ≡ Ran es
+        → ((t : S) (rest : List (List ℕ)) (fs : List Event) → run b t (suc k) rest codes ≡ Ran fs → run b t (suc k) (rest ++ more) codes ≡ Ran fs)
+        → before (b .move s code x .events) (run b (b .move s code x .state) (suc k) (left ++ more) codes) ≡ Ran es
+    onward x left f ih =
+        let found = ran-before (b .move s code x .events) (run b (b .move s code x .state) (suc k) left codes) f in
+        rw (ih (b .move s code x .state) left (found .0) (found .1), found .2)
+
+    go : (t : Bool) (list : List (List ℕ))
+        → dealt (Stopped Items k) t list (λ x left.
+        before (b .move s code x .events) (run b (b .move s code x .state) (suc k) left codes)) ≡ Ran es
+        → ((t : S) (rest : List (List ℕ)) (fs : List Event) → run b t (suc k) rest codes ≡ Ran fs → run b t (suc k) (rest ++ more) codes ≡ Ran fs)
+        → dealt (Stopped Items k) t (list ++ more) (λ x left.
+        before (b .move s code x .events) (run b (b .move s code x .state) (suc k) left codes)) ≡ Ran es
+    go true [] f ih = apart cc
+    go true (x ∷ left) f ih = onward x left f ih
+    go false list f ih = onward (eight []) list f ih
