@@ -1,6 +1,6 @@
 -- Laws of ROOM, and of what a writer leaves.
 -- Assumes nothing.
-use mathlib.Core.Path.{_≡_, ap, _∙_}
+use mathlib.Core.Path.{_≡_, sym, ap, _∙_}
 use mathlib.Core.List.{List}
 use Prim.Native.Nat.{ℕ, _+_, _≤_, _<_}
 use native.Mathlib.Decide.{decLt}
@@ -58,3 +58,8 @@ put-fits out at bytes {answer} h p = p .1 ∙ ap (λ (a : Answer). leaves a out 
 pub put-place : (out : List ℕ) (at : ℕ) (bytes : List ℕ) {answer : Answer} {left : List ℕ} {k : ℕ} → at + length bytes ≤ length out
     → Put out at bytes answer left → k ≡ answerPlace answer → k ≡ length bytes
 put-place out at bytes h p e = e ∙ ap answerPlace (p .0 ∙ room-enough (length out) at (length bytes) h)
+
+-- A writer of bytes that are known to fit, which stores them and answers their length.
+pub put-stored : (out : List ℕ) (at : ℕ) (bytes : List ℕ) {k : ℕ} {left : List ℕ} → at + length bytes ≤ length out → k ≡ length bytes
+    → left ≡ sets out at bytes → Put out at bytes (Accepted k) left
+put-stored out at bytes h e f = (rw e (sym (room-enough (length out) at (length bytes) h)), f)

@@ -4,3 +4,6 @@ pub mod Turns
 pub mod Cost
 pub mod Fitting
 pub mod Bounds
+pub mod Samples
+pub mod Examples
+pub mod Wrong

@@ -5,8 +5,11 @@ use mathlib.Core.Bool.{not}
 use mathlib.Core.List.{[], _∷_}
 use Rattle.control.specs.Simpson.{slotAt, setPair, setIndex, setSlot, setLatest, eachWord, Writer, Reader, Procedures, simpson}
 use Rattle.control.specs.Step.{sound, step}
 use Rattle.machine.specs.Machine.{writerAfter, readerAfter, inAllFour, fresh}
-use Rattle.machine.proofs.Runs.{CW, RW, CR, RR, all, run, w, r}
+use Rattle.items.specs.Item.{eight}
+use Rattle.history.specs.Event.{CW, RW, CR, RR}
+use Rattle.runs.specs.Run.{Ran, run}
+use Rattle.runs.proofs.Samples.{all, ran, w, r}
 
 -- "Setting latest before slot[pair]."
 unfoldable pub latestFirst : Procedures
@@ -19,9 +22,9 @@ latestFirst Writer n =
 latestFirst Reader n = simpson Reader n
 
 -- A read returns 7, and the next one, called after that, the initial item, though write 1 had returned before either.
-pub latest-first-goes-back : run latestFirst 1 (all 7 ∷ all 8 ∷ []) (w 5 (r 2 (w 4 (r 6 []))))
-    ≡ CW (7 ∷ []) ∷ RW ∷ CR ∷ CW (8 ∷ []) ∷ RR (7 ∷ []) ∷ CR ∷ RR (0 ∷ []) ∷ []
-unfolding latestFirst simpson eachWord sound step writerAfter readerAfter inAllFour fresh
+pub latest-first-goes-back : ran latestFirst 1 (all 7 ∷ all 8 ∷ []) (w 5 (r 2 (w 4 (r 6 []))))
+    ≡ Ran (CW (eight (7 ∷ [])) ∷ RW ∷ CR ∷ CW (eight (8 ∷ [])) ∷ RR (eight (7 ∷ [])) ∷ CR ∷ RR (eight (0 ∷ [])) ∷ [])
+unfolding run latestFirst simpson eachWord sound step writerAfter readerAfter inAllFour fresh
 latest-first-goes-back = refl
 
 -- "Letting the writer look at reading again after its first move": in its second.
@@ -35,9 +38,9 @@ readingInSecond Writer n =
 readingInSecond Reader n = simpson Reader n
 
 -- A read returns one word of write 2 and one of write 1.
-pub reading-in-second-tears : run readingInSecond 2 (all 7 ∷ all 8 ∷ []) (w 7 (r 2 (w 2 (r 3 []))))
-    ≡ CW (7 ∷ 7 ∷ []) ∷ RW ∷ CW (8 ∷ 8 ∷ []) ∷ CR ∷ RR (8 ∷ 7 ∷ []) ∷ []
-unfolding readingInSecond simpson eachWord sound step writerAfter readerAfter inAllFour fresh
+pub reading-in-second-tears : ran readingInSecond 2 (all 7 ∷ all 8 ∷ []) (w 7 (r 2 (w 2 (r 3 []))))
+    ≡ Ran (CW (eight (7 ∷ 7 ∷ [])) ∷ RW ∷ CW (eight (8 ∷ 8 ∷ [])) ∷ CR ∷ RR (eight (8 ∷ 7 ∷ [])) ∷ [])
+unfolding run readingInSecond simpson eachWord sound step writerAfter readerAfter inAllFour fresh
 reading-in-second-tears = refl
 
 -- And before slot[pair] is set.
@@ -51,9 +54,9 @@ readingAgain Writer n =
 readingAgain Reader n = simpson Reader n
 
 -- Writes 1 and 2 have returned, a read returns 7, and the next one the initial item.
-pub reading-again-goes-back : run readingAgain 1 (all 7 ∷ all 8 ∷ []) (w 9 (r 2 (w 3 (r 6 []))))
-    ≡ CW (7 ∷ []) ∷ RW ∷ CW (8 ∷ []) ∷ CR ∷ RW ∷ RR (7 ∷ []) ∷ CR ∷ RR (0 ∷ []) ∷ []
-unfolding readingAgain simpson eachWord sound step writerAfter readerAfter inAllFour fresh
+pub reading-again-goes-back : ran readingAgain 1 (all 7 ∷ all 8 ∷ []) (w 9 (r 2 (w 3 (r 6 []))))
+    ≡ Ran (CW (eight (7 ∷ [])) ∷ RW ∷ CW (eight (8 ∷ [])) ∷ CR ∷ RW ∷ RR (eight (7 ∷ [])) ∷ CR ∷ RR (eight (0 ∷ [])) ∷ [])
+unfolding run readingAgain simpson eachWord sound step writerAfter readerAfter inAllFour fresh
 reading-again-goes-back = refl
 
 -- Two slots and the bit latest (02, #113): index := not latest, the words, latest := index; and index := latest, the words.
@@ -67,7 +70,7 @@ twoSlots Writer n =
 twoSlots Reader n = record { opening = setIndex (λ b c. b .latest) ∷ []; words = eachWord 0 n; closing = [] }
 
 -- A read returns one word of the initial item and one of write 2.
-pub two-slots-tear : run twoSlots 2 (all 7 ∷ all 8 ∷ []) (r 2 (w 7 (r 1 [])))
-    ≡ CR ∷ CW (7 ∷ 7 ∷ []) ∷ RW ∷ CW (8 ∷ 8 ∷ []) ∷ RR (0 ∷ 8 ∷ []) ∷ []
-unfolding twoSlots simpson eachWord sound step writerAfter readerAfter inAllFour fresh
+pub two-slots-tear : ran twoSlots 2 (all 7 ∷ all 8 ∷ []) (r 2 (w 7 (r 1 [])))
+    ≡ Ran (CR ∷ CW (eight (7 ∷ 7 ∷ [])) ∷ RW ∷ CW (eight (8 ∷ 8 ∷ [])) ∷ RR (eight (0 ∷ 8 ∷ [])) ∷ [])
+unfolding run twoSlots simpson eachWord sound step writerAfter readerAfter inAllFour fresh
 two-slots-tear = refl
