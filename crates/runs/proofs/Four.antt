@@ -30,14 +30,17 @@ pub run-four : (I : State → List (List ℕ) → Type 0) (P : Claim)
     → ((s : State) (items : List (List ℕ)) → I s items → P s items 0 [])
     → ((s : State) (items : List (List ℕ)) (x : List ℕ) (left : List (List ℕ)) → I s items → Dealt s items x left
     → I (writerMove simpson s x .state) left
-    × ((m : ℕ) (es : List Event) → P (writerMove simpson s x .state) left m es → P s items (suc m) (writes (writerMove simpson s x) .events ++ es)))
+    × ((m : ℕ) (es : List Event) → P (writerMove simpson s x .state) left m es → P s items (suc m)
+    (writes (writerMove simpson s x) .events ++ es)))
     → ((s : State) (items : List (List ℕ)) → I s items
     → I (readerMove simpson s .state) items
-    × ((m : ℕ) (es : List Event) → P (readerMove simpson s .state) items m es → P s items (suc m) (reads (readerMove simpson s) .events ++ es)))
+    × ((m : ℕ) (es : List Event) → P (readerMove simpson s .state) items m es → P s items (suc m)
+    (reads (readerMove simpson s) .events ++ es)))
     → (s : State) (k : ℕ) (items : List (List ℕ)) (codes : List ℕ) (es : List Event) → I s items
     → run (fourSlots simpson) s k items codes ≡ Ran es → P s items (length codes) es
 run-four I P none writer reader =
-    run-all (fourSlots simpson) I (λ s items codes es. P s items (length codes) es) none (λ s items code x left i d. more s items code x left i d)
+    run-all (fourSlots simpson) I (λ s items codes es. P s items (length codes) es) none
+    (λ s items code x left i d. more s items code x left i d)
   where
     Step : State → List (List ℕ) → ℕ → List ℕ → List (List ℕ) → Type 0
     Step s items code x left =

@@ -27,7 +27,8 @@ pub run-all : {S : Type 0} (b : Bench S) (I : S → List (List ℕ) → Type 0) 
     → ((s : S) (items : List (List ℕ)) → I s items → P s items [] [])
     → ((s : S) (items : List (List ℕ)) (code : ℕ) (x : List ℕ) (left : List (List ℕ)) → I s items → Deal b s code items x left
     → I (b .move s code x .state) left
-    × ((codes : List ℕ) (es : List Event) → P (b .move s code x .state) left codes es → P s items (code ∷ codes) (b .move s code x .events ++ es)))
+    × ((codes : List ℕ) (es : List Event) → P (b .move s code x .state) left codes es → P s items (code ∷ codes)
+    (b .move s code x .events ++ es)))
     → (s : S) (k : ℕ) (items : List (List ℕ)) (codes : List ℕ) (es : List Event) → I s items → run b s k items codes ≡ Ran es
     → P s items codes es
 unfolding run
@@ -65,7 +66,8 @@ run-leftover {S} b s k items more (code ∷ codes) es e =
   where
     onward : (x : List ℕ) (left : List (List ℕ))
         → before (b .move s code x .events) (run b (b .move s code x .state) (suc k) left codes) ≡ Ran es
-        → ((t : S) (rest : List (List ℕ)) (fs : List Event) → run b t (suc k) rest codes ≡ Ran fs → run b t (suc k) (rest ++ more) codes ≡ Ran fs)
+        → ((t : S) (rest : List (List ℕ)) (fs : List Event) → run b t (suc k) rest codes ≡ Ran fs → run b t (suc k) (rest ++ more) codes
+        ≡ Ran fs)
         → before (b .move s code x .events) (run b (b .move s code x .state) (suc k) (left ++ more) codes) ≡ Ran es
     onward x left f ih =
         let found = ran-before (b .move s code x .events) (run b (b .move s code x .state) (suc k) left codes) f in
@@ -74,7 +76,8 @@ run-leftover {S} b s k items more (code ∷ codes) es e =
     go : (t : Bool) (list : List (List ℕ))
         → dealt (Stopped Items k) t list (λ x left.
         before (b .move s code x .events) (run b (b .move s code x .state) (suc k) left codes)) ≡ Ran es
-        → ((t : S) (rest : List (List ℕ)) (fs : List Event) → run b t (suc k) rest codes ≡ Ran fs → run b t (suc k) (rest ++ more) codes ≡ Ran fs)
+        → ((t : S) (rest : List (List ℕ)) (fs : List Event) → run b t (suc k) rest codes ≡ Ran fs → run b t (suc k) (rest ++ more) codes
+        ≡ Ran fs)
         → dealt (Stopped Items k) t (list ++ more) (λ x left.
         before (b .move s code x .events) (run b (b .move s code x .state) (suc k) left codes)) ≡ Ran es
     go true [] f ih = apart cc
