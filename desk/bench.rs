@@ -1,6 +1,6 @@
 // Times a run of the library beside a plain Rust runner, on the same move files and in interleaved rounds.
 // Built by: rustc -O desk/bench.rs -L target/staticlib -l static=host --out-dir target/desk
-// Run by: target/desk/bench samples, which compares the two on the samples first, or target/desk/bench.
+// Run by: target/desk/bench, which measures, or target/desk/bench samples, which only compares the two on the samples.
 
 mod plain;
 
@@ -48,6 +48,7 @@ fn compare_samples(directory: &str) -> std::io::Result<()> {
             compared += 1;
         }
     }
+    assert!(compared > 0, "{directory}: no move file");
     println!("bench: {compared} move files compared, plain and ours agree");
     Ok(())
 }
@@ -101,7 +102,7 @@ fn medians(file: &[u8]) -> [f64; 2] {
 
 fn main() -> std::io::Result<()> {
     if let Some(directory) = std::env::args().nth(1) {
-        compare_samples(&directory)?;
+        return compare_samples(&directory);
     }
     println!("n  words   file bytes  log bytes  plain us  ours us  ratio");
     for (name, words) in [("small", 0..100), ("5-byte", 1 << 31..u32::MAX)] {

@@ -43,7 +43,7 @@ fn answer_line(answer: u64) -> String {
     format!("{} {}", answer >> 32, answer & 0xffff_ffff)
 }
 
-// Runs a move file on an output that holds the fill, and gives its answer as an answer file has it.
+// Runs a move file on an output that holds the fill, and gives its answer as an answer file has it. Its log must read as accepted.
 fn run(moves: &[u8], room: usize, fill: u8) -> String {
     let mut lent = vec![fill; GUARD + room + GUARD];
     let log = unsafe { lent.as_mut_ptr().add(GUARD) };
@@ -58,6 +58,9 @@ fn run(moves: &[u8], room: usize, fill: u8) -> String {
     let (log, after) = rest.split_at(written);
     if before.iter().chain(after).any(|&byte| byte != fill) {
         return format!("{line}, with a byte outside the log altered");
+    }
+    if accepted && read_log(log) != line {
+        return format!("{line}, but its log reads as {}", read_log(log));
     }
     if accepted {
         format!("{line}\n{}", log_line(log))

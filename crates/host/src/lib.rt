@@ -2,14 +2,13 @@
 ghost use mathlib.Core.Path.{_≡_};
 ghost use Rattle.refusals.specs.Table.{answerWord};
 ghost use Rattle.refusals.specs.Output.{leaves};
-ghost use Rattle.control.specs.Simpson.{simpson};
 ghost use Rattle.log.specs.Log.{logOf};
-ghost use Rattle.runs.specs.Run.{fourSlots, runLog, runAnswer};
+ghost use Rattle.runs.specs.Run.{fourAnswer, fourLog};
 
 // Runs a move file into a lent log: the answer of `runner::run`.
 #[no_mangle]
 pub extern "C" fn kantsufel_run(moves: &[u8], log: &mut [u8]) -> u64
-    ensures { λ r. ⌜ (r ≡ answerWord (runAnswer (fourSlots simpson) 1 (now (moves .entry)) (now (log .entry)))) × (now (log .exit) ≡ leaves (runAnswer (fourSlots simpson) 1 (now (moves .entry)) (now (log .entry))) (now (log .entry)) 0 (runLog (fourSlots simpson) 1 (now (moves .entry)))) ⌝ }
+    ensures { λ r. ⌜ (r ≡ answerWord (fourAnswer (now (moves .entry)) (now (log .entry)))) × (now (log .exit) ≡ leaves (fourAnswer (now (moves .entry)) (now (log .entry))) (now (log .entry)) 0 (fourLog (now (moves .entry)))) ⌝ }
 {
     let answer = runner::run(moves, &mut *log);
     refusals::answer_word(answer)

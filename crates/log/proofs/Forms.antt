@@ -11,7 +11,6 @@ use lib.Dec.{ltb}
 use lib.ListN.{length, take, drop, length-drop, length-append, take-append-drop}
 use lib.Seq.{take-add, take-length, drop-append-seam}
 use borrow.Author.Tests.{lt-ltb, le-ltb, ltb-true, ltb-false}
-use Rattle.refusals.specs.declared.Fault.{Fault}
 use Rattle.refusals.specs.declared.Fault.the-variants.{Turn}
 use Rattle.refusals.specs.declared.Answer.{Answer}
 use Rattle.refusals.specs.declared.Answer.the-variants.{Accepted, Refused}
@@ -301,11 +300,6 @@ log-form longest k s bs e = go (headOf longest 4096 s .answer) refl e
         let f' : afterHead (headOf longest 4096 s) j (drop j s) .answer ≡ Accepted k = rw zero-add at f in
         log-of longest k j s bs is (after-form (headOf longest 4096 s) j k (drop j s) f')
     go (Refused x j) is f = apart cc
-
--- No log is both accepted and refused.
-pub log-one-answer : (longest k j : ℕ) (f : Fault) (s : List ℕ) → logOf longest s .answer ≡ Accepted k
-    → logOf longest s .answer ≡ Refused f j → ⊥
-log-one-answer longest k j f s e g = apart cc
 
 after-turn : (h : Head) (at k : ℕ) (s : List ℕ) → eventsEnd (h .n) (h .count) s ≡ Accepted (length s)
     → (afterHead h at s .answer ≡ Refused Turn k) ↔ ((k ≡ inTurn closed (eventsIn (h .n) (h .count) s)) × (k < h .count))

@@ -9,7 +9,6 @@ use native.Mathlib.Nat.{sub-zero, zero-add}
 use native.Mathlib.Omega.{arith}
 use lib.ListN.{length, take, drop, length-append, length-drop, take-append-drop}
 use lib.Seq.{drop-append-seam, take-all}
-use Rattle.refusals.specs.declared.Fault.{Fault}
 use Rattle.refusals.specs.declared.Fault.the-variants.{Code}
 use Rattle.refusals.specs.declared.Answer.the-variants.{Accepted, Refused}
 use Rattle.refusals.proofs.Apart.{apart}
@@ -119,11 +118,6 @@ file-form longest last k s bs e =
       moves-listed = moves .good;
     })
 
--- No move file is both refused and accepted.
-pub file-one-answer : (longest last k j : ℕ) (f : Fault) (s : List ℕ) → moveFileOf longest last s .answer ≡ Accepted k
-    → moveFileOf longest last s .answer ≡ Refused f j → ⊥
-file-one-answer longest last k j f s e r = apart cc
-
 -- A list is what stands at its front, then the rest.
 joined : (j : ℕ) (l : List ℕ) {p q : List ℕ} → take j l ≡ p → drop j l ≡ q → l ≡ p ++ q
 joined j l e f = sym (take-append-drop j l) ∙ ap₂ _++_ e f
@@ -190,6 +184,7 @@ track-back last moves l few every =
 pub record FileBack (last n : ℕ) (initial : List ℕ) (items : List (List ℕ)) (moves s : List ℕ) (f : MoveFile) : Type 0 where
   pub all : f .answer ≡ Accepted (length s)
   pub same-n : f .n ≡ n
+  pub same-counts : (f .items ≡ length items) × (f .moves ≡ length moves)
   pub same-initial : f .initial ≡ initial
   pub same-items : itemsOf f s ≡ items
   pub same-moves : movesOf last f s ≡ moves
@@ -247,6 +242,7 @@ file-back longest last n initial items moves w fits few fit most l every short =
     rw (whole-back longest last n initial items moves w fits few fit most l every short) (record {
       all = ap Accepted size;
       same-n = refl;
+      same-counts = (refl, refl);
       same-initial = refl;
       same-items = rw at-items (items-back n items (count ++ codes) w fit .1);
       same-moves = rw at-moves (codes-back last moves l every .1);

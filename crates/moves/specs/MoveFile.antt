@@ -34,7 +34,7 @@ codesEnd last count s = partsEnd (λ t. answerOf (codeOf last t)) count 0 s
 abbrev pub codesIn : ℕ → ℕ → List ℕ → List ℕ
 codesIn last count s = partsOf (λ t. answerOf (codeOf last t)) (λ t. valueIn (codeOf last t)) count s
 
--- What stands after the items, and such a part that is refused.
+-- The count of moves and the moves, where they are refused.
 abbrev pub refusedTrack : Fault → ℕ → Track
 refusedTrack fault at = record { answer = Refused fault at; count = 0; at = 0 }
 

@@ -1,9 +1,12 @@
 -- Laws of runs, whatever the machine is.
 -- Assumes nothing.
-use Prim.Native.Nat.{ℕ, suc}
-use mathlib.Core.Path.{_≡_, refl}
+use Prim.Native.Nat.{ℕ, suc, _+_, _-_, _≤_, _<_}
+use native.Mathlib.Omega.{arith}
+use mathlib.Core.Path.{_≡_, refl, sym}
 use mathlib.Core.Bool.{Bool, true, false}
 use mathlib.Core.List.{List, [], _∷_, _++_}
+use lib.ListN.{length, take}
+use Rattle.refusals.specs.declared.Fault.{Fault}
 use Rattle.refusals.specs.declared.Fault.the-variants.{Items}
 use Rattle.refusals.proofs.Apart.{apart}
 use Rattle.items.specs.Item.{eight}
@@ -83,3 +86,49 @@ run-leftover {S} b s k items more (code ∷ codes) es e =
     go true [] f ih = apart cc
     go true (x ∷ left) f ih = onward x left f ih
     go false list f ih = onward (eight []) list f ih
+
+-- What a run that stops tells: it is for want of an item, at one of its moves, and the moves before that one run to their end.
+pub record Lacking {S : Type 0} (b : Bench S) (s : S) (k : ℕ) (items : List (List ℕ)) (codes : List ℕ) (f : Fault) (j : ℕ) : Type 0 where
+  pub fault : f ≡ Items
+  pub from : k ≤ j
+  pub within : j < k + length codes
+  pub es : List Event
+  pub ran : run b s k items (take (j - k) codes) ≡ Ran es
+
+stopped-before : (es : List Event) (o : Outcome) {f : Fault} {j : ℕ} → before es o ≡ Stopped f j → o ≡ Stopped f j
+stopped-before es (Stopped g i) e = e
+stopped-before es (Ran fs) e = apart cc
+
+pub run-lacks : {S : Type 0} (b : Bench S) (s : S) (k : ℕ) (items : List (List ℕ)) (codes : List ℕ) (f : Fault) (j : ℕ)
+    → run b s k items codes ≡ Stopped f j → Lacking b s k items codes f j
+unfolding run
+run-lacks b s k items [] f j e = apart cc
+run-lacks {S} b s k items (code ∷ codes) f j e =
+    go (b .takes s code) items refl refl e (λ t left e. run-lacks b t (suc k) left codes f j e)
+  where
+    onward : (t : Bool) (list : List (List ℕ)) (x : List ℕ) (left : List (List ℕ)) → b .takes s code ≡ t → items ≡ list
+        → ((go : List ℕ → List (List ℕ) → Outcome) → dealt (Stopped Items k) t list go ≡ go x left)
+        → Lacking b (b .move s code x .state) (suc k) left codes f j → Lacking b s k items (code ∷ codes) f j
+    onward t list x left h l deal rest =
+        let from = rest .from in
+        let more : j - k ≡ suc (j - suc k) = omega arith in
+        record {
+          fault = rest .fault;
+          from = omega arith;
+          within = omega (arith, rest .within);
+          es = b .move s code x .events ++ rest .es;
+          ran = rw (more, h, l, deal _, rest .ran);
+        }
+
+    go : (t : Bool) (list : List (List ℕ)) → b .takes s code ≡ t → items ≡ list
+        → dealt (Stopped Items k) t list (λ x left.
+        before (b .move s code x .events) (run b (b .move s code x .state) (suc k) left codes)) ≡ Stopped f j
+        → ((t : S) (left : List (List ℕ)) → run b t (suc k) left codes ≡ Stopped f j → Lacking b t (suc k) left codes f j)
+        → Lacking b s k items (code ∷ codes) f j
+    go true [] h l e ih =
+        let same : k ≡ j = cc in
+        let fault : Items ≡ f = cc in
+        let none : j - k ≡ 0 = omega arith in
+        record { fault = sym fault; from = omega arith; within = omega arith; es = []; ran = rw none }
+    go true (x ∷ left) h l e ih = onward true (x ∷ left) x left h l (λ go. refl) (ih _ left (stopped-before _ _ e))
+    go false list h l e ih = onward false list (eight []) list h l (λ go. refl) (ih _ list (stopped-before _ _ e))
