@@ -48,7 +48,7 @@ fn compare_samples(directory: &str) -> std::io::Result<()> {
             compared += 1;
         }
     }
-    assert!(compared > 0, "{directory}: no move file");
+    assert!(compared > 0, "{}: no move file", directory);
     println!("bench: {compared} move files compared, plain and ours agree");
     Ok(())
 }
