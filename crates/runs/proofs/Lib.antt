@@ -4,6 +4,7 @@ pub mod Turns
 pub mod Cost
 pub mod Fitting
 pub mod Bounds
+pub mod Accepted
 pub mod Samples
 pub mod Examples
 pub mod Wrong
