@@ -52,6 +52,7 @@ use Rattle.log.specs.Log.{
   logOf,
   eventsOf,
   eventBytes,
+  eventsBytes,
   logBytes,
   FitsEvent,
 }
@@ -255,6 +256,8 @@ pub record LogForm (longest k : ℕ) (s : List ℕ) (l : Log) : Type 0 where
   pub short : length s ≤ longest
   pub ends : k ≡ length s
   pub form : s ≡ logBytes (l .n) (l .initial) (eventsOf l s)
+  pub starts : l .start ≤ length s
+  pub body : drop (l .start) s ≡ eventsBytes (l .n) (eventsOf l s)
   pub width : isWidth (l .n) ≡ true
   pub fits : Fits (l .n) (l .initial)
   pub events : Every (FitsEvent (l .n)) (eventsOf l s)
@@ -280,6 +283,8 @@ log-of longest k j s bs e after =
       short = front .short;
       ends = omega (arith, after .whole, front .ends, ap length (front .form), ap length split, length-append (take j s) rest);
       form = sym split ∙ ap₂ _++_ (front .form ∙ ap (headBytes (h .n) (h .initial)) (sym (parts .count))) body;
+      starts = omega (arith, front .ends, ap length (front .form), ap length split, length-append (take j s) rest);
+      body = body;
       width = front .width;
       fits = record { zeros = front .zeros; small = rw (← front .zeros) at small };
       events = parts .good;
