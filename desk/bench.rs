@@ -2,9 +2,10 @@
 // Built by: rustc -O desk/bench.rs -L target/staticlib -l static=host --out-dir target/desk
 // Run by: target/desk/bench, which measures, or target/desk/bench samples, which only compares the two on the samples.
 
+mod numbers;
 mod plain;
 
-use plain::{put, LONGEST};
+use numbers::{put, LONGEST};
 use std::hint::black_box;
 use std::ops::Range;
 use std::time::Instant;

@@ -1,7 +1,7 @@
 -- Entries of four bytes: storing them one by one, and that the promise determines what is answered and left.
 -- Assumes nothing.
 use mathlib.Core.Path.{_≡_, refl, sym, ap, _∙_}
-use mathlib.Core.List.{List, [], _∷_, _++_}
+use mathlib.Core.List.{List, [], _++_}
 use Prim.Native.Nat.{ℕ, suc, _+_, _*_, _/_, _%_, _≤_, _<_}
 use native.Mathlib.Nat.{zero-add}
 use native.Mathlib.Numerals.{add-one, towards-suc}
@@ -34,7 +34,8 @@ judges-bytes-unique {out = out} j k =
 -- The entries from the i-th on are stored by storing the i-th and then the others.
 pub entry-stored : (out entries : List ℕ) (i : ℕ) → i < length entries
     → sets (set (set (set (set out (4 * i) (getD entries i 0 % 256)) (4 * i + 1) (getD entries i 0 / 256 % 256)) (4 * i + 2)
-    (getD entries i 0 / 65536 % 256)) (4 * i + 3) (getD entries i 0 / 16777216 % 256)) (4 * (i + 1)) (bytesOfAll four (drop (i + 1) entries))
+    (getD entries i 0 / 65536 % 256)) (4 * i + 3) (getD entries i 0 / 16777216 % 256)) (4 * (i + 1))
+    (bytesOfAll four (drop (i + 1) entries))
     ≡ sets out (4 * i) (bytesOfAll four (drop i entries))
 unfolding bytesOfAll
 entry-stored out entries i less =

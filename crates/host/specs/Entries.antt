@@ -1,5 +1,5 @@
--- 01, "Refusal numbers": the judge "called by a host program in C, on byte slices and numbers; there an entry is four bytes, lowest first, and
--- room counts whole entries only. .. answer is one 64-bit number".
+-- 01, "Refusal numbers": the judge "called by a host program in C, on byte slices and numbers; there an entry is four bytes, lowest
+-- first, and room counts whole entries only"; its "answer is one 64-bit number".
 use Prim.Native.Nat.{ℕ, _/_, _%_}
 use mathlib.Core.Path.{_≡_}
 use mathlib.Core.List.{List, [], _∷_}

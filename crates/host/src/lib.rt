@@ -6,7 +6,6 @@ ghost use lib.ListN.{length};
 ghost use lib.Seq.{sets};
 ghost use Rattle.refusals.specs.Table.{answerWord};
 ghost use Rattle.refusals.specs.Output.{leaves};
-ghost use Rattle.log.specs.Log.{logOf};
 ghost use Rattle.numbers.specs.Reading.{bytesOfAll};
 ghost use Rattle.runs.specs.Run.{fourAnswer, fourLog};
 ghost use Rattle.host.specs.Entries.{four, JudgesBytes};
@@ -20,16 +19,6 @@ pub extern "C" fn kantsufel_run(moves: &[u8], log: &mut [u8]) -> u64
     ensures { λ r. ⌜ (r ≡ answerWord (fourAnswer (now (moves .entry)) (now (log .entry)))) × (now (log .exit) ≡ leaves (fourAnswer (now (moves .entry)) (now (log .entry))) (now (log .entry)) 0 (fourLog (now (moves .entry)))) ⌝ }
 {
     let answer = runner::run(moves, &mut *log);
-    refusals::answer_word(answer)
-}
-
-// Reads a log: the answer of `log::read_log` for one of at most 24,576 bytes.
-#[no_mangle]
-pub extern "C" fn kantsufel_read_log(log: &[u8]) -> u64
-    ensures { λ r. ⌜ r ≡ answerWord (logOf 24576 (now (log .entry)) .answer) ⌝ }
-{
-    let read = log::read_log(log, 24576);
-    let answer = read.answer;
     refusals::answer_word(answer)
 }
 
@@ -59,7 +48,7 @@ pub extern "C" fn kantsufel_judge(log: &[u8], entries: &mut [u8]) -> u64
     if MOST_READS < room {
         room = MOST_READS;
     }
-    let mut placed = [0u32; 2048];
+    let mut placed = [0u32; MOST_READS];
     let answer = placing::judge(log, &mut placed[..room]);
     let word = refusals::answer_word(answer);
     let Answer::Accepted { place: _ } = answer else {

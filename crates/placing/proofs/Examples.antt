@@ -170,6 +170,24 @@ holds k l = example cases examples-hold k l p4
 p8-holds : Holds p8
 p8-holds = holds 4 (omega arith)
 
+p9-holds : Holds p9
+p9-holds = holds 5 (omega arith)
+
+p10-holds : Holds p10
+p10-holds = holds 6 (omega arith)
+
+no-entries-holds : Holds no-entries
+no-entries-holds = holds 10 (omega arith)
+
+just-room-holds : Holds just-room
+just-room-holds = holds 11 (omega arith)
+
+high-unseen-holds : Holds high-unseen
+high-unseen-holds = holds 12 (omega arith)
+
+two-words-holds : Holds two-words
+two-words-holds = holds 13 (omega arith)
+
 -- Two outcomes on the same output have the same first entry.
 first-entry : {s out : List ℕ} {a b : Answer} {x y : ℕ} {rest more : List ℕ} → Judges s out a (x ∷ rest) → Judges s out b (y ∷ more) → x ≡ y
 first-entry j k = ap (λ (l : List ℕ). getD l 0 0) (judges-unique j k .1)
@@ -187,7 +205,7 @@ all-at-zero-refused j =
 -- A judge that chooses the newest fit.
 pub newest-fit-refused : {answer : Answer} {rest : List ℕ} → Judges (p10 .bytes) (p10 .out) answer (2 ∷ rest) → ⊥
 newest-fit-refused j =
-    let z : _≡_ {A = ℕ} 2 0 = first-entry j (holds 6 (omega arith)) in
+    let z : _≡_ {A = ℕ} 2 0 = first-entry j p10-holds in
     omega arith
 
 -- A judge that takes equal words for the same write.
@@ -198,24 +216,24 @@ equal-words-refused j =
 
 -- A judge that gives a read a write called after it returned.
 pub high-unseen-refused : {out after : List ℕ} {place : ℕ} → Judges (high-unseen .bytes) out (Accepted place) after → ⊥
-high-unseen-refused j = accepted-not-none (j .judgement) (holds 12 (omega arith) .judgement)
+high-unseen-refused j = accepted-not-none (j .judgement) (high-unseen-holds .judgement)
 
 -- A judge that forgets the order of the reads.
 pub order-lost-refused : {out after : List ℕ} {place : ℕ} → Judges (p9 .bytes) out (Accepted place) after → ⊥
-order-lost-refused j = accepted-not-none (j .judgement) (holds 5 (omega arith) .judgement)
+order-lost-refused j = accepted-not-none (j .judgement) (p9-holds .judgement)
 
 -- A judge that says NO PLACE before ROOM.
 pub no-place-before-room-refused : {after : List ℕ} {place : ℕ} → Judges (p7 .bytes) [] (Refused NoPlace place) after → ⊥
 no-place-before-room-refused j =
-    let e = judges-unique j (holds 10 (omega arith)) .0 in
+    let e = judges-unique j no-entries-holds .0 in
     apart cc
 
 -- A judge that writes an entry where it refuses.
 pub entries-touched-refused : {answer : Answer} → Judges (p7 .bytes) (9 ∷ []) answer (0 ∷ []) → ⊥
 entries-touched-refused j =
-    let z : _≡_ {A = ℕ} 0 9 = first-entry j (holds 11 (omega arith)) in
+    let z : _≡_ {A = ℕ} 0 9 = first-entry j just-room-holds in
     omega arith
 
 -- A judge that compares fewer than n words.
 pub fewer-words-refused : {out after : List ℕ} {place : ℕ} → Judges (two-words .bytes) out (Accepted place) after → ⊥
-fewer-words-refused j = accepted-not-none (j .judgement) (holds 13 (omega arith) .judgement)
+fewer-words-refused j = accepted-not-none (j .judgement) (two-words-holds .judgement)

@@ -22,7 +22,8 @@ lent : (c : tie.Joined1) → length (take {A = ℕ} (c .if1 .room) (replicate 20
 lent c = length-take-le {A = ℕ} (c .if1 .room) (replicate 2048 0) (room-few c)
 
 outcome : (c : tie.After-answer-word)
-    → Outcome (From c .args .log .now) (From c .args .entries .now) (take {A = ℕ} (c .before .before .before .before .if1 .room) (replicate 2048 0))
+    → Outcome (From c .args .log .now) (From c .args .entries .now)
+    (take {A = ℕ} (c .before .before .before .before .if1 .room) (replicate 2048 0))
     (c .before .before .judge .result) (c .before .before .judge .last .1 .0) (c .answer-word .result)
 outcome c =
     let joined = c .before .before .before .before in
@@ -83,7 +84,8 @@ returns-2 : tie.Need-returns-2
 returns-2 c =
     let placed = c .before .before .before .before .before in
     let told = placed .before .before .before in
-    bytes-placed _ _ (outcome told) (placed .before .enum-told .given .1) (placed .answer-place .ensures) _ (c .before .before .store-entries .ensures)
+    bytes-placed _ _ (outcome told) (placed .before .enum-told .given .1) (placed .answer-place .ensures) _
+    (c .before .before .store-entries .ensures)
 
 pub kantsufel-judge-spec : {M : Type 1} → statement M
 kantsufel-judge-spec =

@@ -1,7 +1,7 @@
 -- `host::store_entries` meets its contract. The loop's invariant looks ahead: storing the entries that are left gives what storing all of
 -- them gives.
 -- Assumes nothing.
-use mathlib.Core.Path.{_≡_, refl, sym, _∙_}
+use mathlib.Core.Path.{_≡_, refl, _∙_}
 use mathlib.Core.List.{[]}
 use Prim.Native.Nat.{_*_, _-_, _≤_}
 use native.Mathlib.Omega.{arith}
