@@ -17,8 +17,8 @@ use Rattle.refusals.specs.Table.{answerPlace, answerWord}
 use Rattle.refusals.proofs.Lists.{sets-append}
 use Rattle.numbers.specs.Reading.{bytesOfAll}
 use Rattle.numbers.specs.Number.{Below}
-use Rattle.placing.specs.Judgement.{Judgement, Judges}
-use Rattle.placing.proofs.Judgements.{judgement-unique, judgement-length, judgement-accepted, judgement-refused}
+use Rattle.placing.specs.Judgement.{JudgementOf, Judges}
+use Rattle.history.proofs.Verdicts.{judgement-unique, judgement-length, judgement-accepted, judgement-refused}
 use Rattle.placing.proofs.Whole.{judgement-room}
 use Rattle.host.specs.Entries.{four, JudgesBytes}
 
@@ -47,11 +47,11 @@ entry-stored out entries i less =
     rw (next, at, add-one i) (simp towards-suc (simp towards-suc at (sym split)))
 
 -- Room for as many entries as a lent output holds whole, or for 2,048 of them, which is always enough.
-abbrev pub Enough : (room : ℕ) (lent : List ℕ) → Type 0
+abbrev Enough : (room : ℕ) (lent : List ℕ) → Type 0
 Enough room lent = (room ≡ length lent / 4) ⊎ ((room ≡ 2048) × (2048 ≤ length lent / 4))
 
-enough : (s lent : List ℕ) → Below 256 s → {room : ℕ} {a : Answer} {ps : List ℕ} → Enough room lent → Judgement s room a ps
-    → Judgement s (length lent / 4) a ps
+enough : (s lent : List ℕ) → Below 256 s → {room : ℕ} {a : Answer} {ps : List ℕ} → Enough room lent → JudgementOf s room a ps
+    → JudgementOf s (length lent / 4) a ps
 enough s lent bytes (inl e) j = rw e at j
 enough s lent bytes (inr h) j = judgement-room s bytes (omega (arith, h .0)) (h .1) j
 
@@ -67,7 +67,7 @@ module _ (s lent : List ℕ) {out after : List ℕ} {answer : Answer} {word : �
   abbrev entries : List ℕ
   entries = o .judges .entries
 
-  judgement-here : Judgement s (length lent / 4) answer entries
+  judgement-here : JudgementOf s (length lent / 4) answer entries
   judgement-here = enough s lent (o .bytes) (o .room) (o .judges .judgement)
 
   pub bytes-refused : {fault : Fault} {place : ℕ} → answer ≡ Refused fault place → JudgesBytes s lent word lent

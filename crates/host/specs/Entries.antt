@@ -8,7 +8,7 @@ use lib.Seq.{sets}
 use Rattle.refusals.specs.declared.Answer.{Answer}
 use Rattle.refusals.specs.Table.{answerWord}
 use Rattle.numbers.specs.Reading.{bytesOfAll}
-use Rattle.placing.specs.Judgement.{Judgement}
+use Rattle.placing.specs.Judgement.{JudgementOf}
 
 -- "four bytes, lowest first"
 abbrev pub four : ℕ → List ℕ
@@ -18,6 +18,6 @@ four entry = entry % 256 ∷ entry / 256 % 256 ∷ entry / 65536 % 256 ∷ entry
 pub record JudgesBytes (s out : List ℕ) (word : ℕ) (after : List ℕ) : Type 0 where
   pub answer : Answer
   pub entries : List ℕ
-  pub judgement : Judgement s (length out / 4) answer entries
+  pub judgement : JudgementOf s (length out / 4) answer entries
   pub told : word ≡ answerWord answer
   pub left : after ≡ sets out 0 (bytesOfAll four entries)

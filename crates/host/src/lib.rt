@@ -10,7 +10,7 @@ ghost use Rattle.numbers.specs.Reading.{bytesOfAll};
 ghost use Rattle.runs.specs.Run.{fourAnswer, fourLog};
 ghost use Rattle.host.specs.Entries.{four, JudgesBytes};
 
-// "4,096 events", of which at most half finish a read.
+// "the count of events (0 to 4,096)": at most half of them finish a read, so more entries are never needed.
 const MOST_READS: usize = 2048;
 
 // Runs a move file into a lent log: the answer of `runner::run`.

@@ -13,14 +13,17 @@ use Rattle.refusals.specs.declared.Answer.the-variants.{Accepted, Refused}
 use Rattle.refusals.proofs.Apart.{apart}
 use Rattle.history.specs.Event.{inTurn}
 use Rattle.history.specs.Reads.{Read, written, readsAfter, readsOf}
+use Rattle.history.specs.Verdict.{faulty, lawful}
+use Rattle.history.proofs.Verdicts.{accepted-not-none}
 use Rattle.history.proofs.FirstFits.{Told, refusal, told, told-right}
 use Rattle.numbers.specs.Number.{numberIn, lead, valueOf}
-use Rattle.numbers.specs.Reading.{partsEnd, partsOf}
+use Rattle.numbers.specs.Reading.{partsEnd, partsOf, Every}
+use Rattle.numbers.proofs.Parts.{every-at}
 use Rattle.items.specs.Item.{itemOf, endOf, valuesOf}
 use Rattle.head.specs.Head.{headOf, itemAt, countAt}
 use Rattle.log.specs.Log.{coded, eventOf, afterHead, logOf}
-use Rattle.placing.specs.Judgement.{eventsFrom, itemsFrom, Judgement, faulty, judged, Judges}
-use Rattle.placing.proofs.Judgements.{judges-unique, accepted-not-none}
+use Rattle.placing.specs.Judgement.{logFrom, eventsFrom, itemsFrom, JudgementOf, Judges}
+use Rattle.placing.proofs.Judgements.{judges-unique}
 
 -- What is told of a log whose reader answers so.
 abbrev toldAfter : Answer → List (List ℕ) → List Read → ℕ → Told
@@ -28,18 +31,18 @@ toldAfter (Accepted end) items rs room = told items rs room
 toldAfter (Refused fault place) items rs room = refusal fault place
 
 abbrev toldOf : List ℕ → ℕ → Told
-toldOf s room = toldAfter (logOf 24576 s .answer) (itemsFrom s) (readsOf (eventsFrom s)) room
+toldOf s room = toldAfter (logFrom s .answer) (itemsFrom s) (readsOf (eventsFrom s)) room
 
 -- It is the judgement.
-told-of-right : (s : List ℕ) (room : ℕ) → Judgement s room (toldOf s room .answer) (toldOf s room .entries)
-told-of-right s room = go (logOf 24576 s .answer) refl
+told-of-right : (s : List ℕ) (room : ℕ) → JudgementOf s room (toldOf s room .answer) (toldOf s room .entries)
+told-of-right s room = go (logFrom s .answer) refl
   where
     rs : List Read
     rs = readsOf (eventsFrom s)
 
-    go : (a : Answer) → logOf 24576 s .answer ≡ a
-        → Judgement s room (toldAfter a (itemsFrom s) rs room .answer) (toldAfter a (itemsFrom s) rs room .entries)
-    go (Accepted end) h = judged end h (told-right (itemsFrom s) rs room)
+    go : (a : Answer) → logFrom s .answer ≡ a
+        → JudgementOf s room (toldAfter a (itemsFrom s) rs room .answer) (toldAfter a (itemsFrom s) rs room .entries)
+    go (Accepted end) h = lawful end h (told-right (itemsFrom s) rs room)
     go (Refused fault place) h = faulty fault place h refl refl
 
 -- The bytes of a log, the lent entries, the answer, and the entries after it.
@@ -66,12 +69,7 @@ case-holds c e =
     subst (λ (t : Told). Judges (c .bytes) (c .out) (t .answer) (t .entries)) e
     (record { entries = _; judgement = told-of-right (c .bytes) (length (c .out)); left = refl })
 
--- A fact of each of some cases.
-abbrev pub Each : (Case → Type 0) → List Case → Type 0
-Each P [] = Unit {0}
-Each P (c ∷ cs) = P c × Each P cs
-
-all-hold : (cs : List Case) → map computed cs ≡ map stated cs → Each Holds cs
+all-hold : (cs : List Case) → map computed cs ≡ map stated cs → Every Holds cs
 all-hold [] e = record {}
 all-hold (c ∷ cs) e =
     let h : computed c ≡ stated c = cc in
@@ -132,10 +130,6 @@ entry-short = record { bytes = p9 .bytes; out = 9 ∷ []; answer = Refused Room 
 abbrev pub no-entries : Case
 no-entries = record { bytes = p7 .bytes; out = []; answer = Refused Room 1; after = [] }
 
--- P7's log with one entry, which is enough.
-abbrev pub just-room : Case
-just-room = record { bytes = p7 .bytes; out = 9 ∷ []; answer = Refused NoPlace 1; after = 9 ∷ [] }
-
 -- CR, RR 7, CW 7, RW: the write was called after the read returned.
 abbrev pub high-unseen : Case
 high-unseen = record { bytes = 1 ∷ 0 ∷ 4 ∷ 2 ∷ 3 ∷ 7 ∷ 0 ∷ 7 ∷ 1 ∷ []; out = 9 ∷ 9 ∷ []; answer = Refused NoPlace 1; after = 9 ∷ 9 ∷ [] }
@@ -149,23 +143,27 @@ two-words = record {
   after = 9 ∷ 9 ∷ [];
 }
 
+-- CR, CW 7, RW, CW 7, RW, CW 7, RR 7: three writes fit.
+abbrev pub three-fit : Case
+three-fit = record {
+  bytes = 1 ∷ 0 ∷ 7 ∷ 2 ∷ 0 ∷ 7 ∷ 1 ∷ 0 ∷ 7 ∷ 1 ∷ 0 ∷ 7 ∷ 3 ∷ 7 ∷ [];
+  out = 9 ∷ 9 ∷ [];
+  answer = Accepted 1;
+  after = 1 ∷ 9 ∷ [];
+}
+
 abbrev pub cases : List Case
-cases = p4 ∷ p5 ∷ p6 ∷ p7 ∷ p8 ∷ p9 ∷ p10 ∷ p11 ∷ p12 ∷ entry-short ∷ no-entries ∷ just-room ∷ high-unseen ∷ two-words ∷ []
+cases = p4 ∷ p5 ∷ p6 ∷ p7 ∷ p8 ∷ p9 ∷ p10 ∷ p11 ∷ p12 ∷ entry-short ∷ no-entries ∷ high-unseen ∷ two-words ∷ three-fit ∷ []
 
 -- The marked examples of the judge hold.
-pub examples-hold : Each Holds cases
+pub examples-hold : Every Holds cases
 unfolding logOf afterHead coded eventOf headOf itemAt countAt itemOf endOf valuesOf numberIn lead valueOf partsEnd partsOf inTurn
     written readsAfter
 examples-hold = all-hold cases refl
 
 -- The fact of the case that has k others before it.
-example : (cs : List Case) → Each Holds cs → (k : ℕ) → k < length cs → (c : Case) → Holds (getD cs k c)
-example [] e k l c = absurd (not-suc-le-zero l)
-example (d ∷ cs) e zero l c = e .0
-example (d ∷ cs) e (suc k) l c = example cs (e .1) k (le-of-suc-le-suc l) c
-
 holds : (k : ℕ) → k < length cases → Holds (getD cases k p4)
-holds k l = example cases examples-hold k l p4
+holds k less = every-at Holds cases k p4 examples-hold less
 
 p8-holds : Holds p8
 p8-holds = holds 4 (omega arith)
@@ -179,14 +177,14 @@ p10-holds = holds 6 (omega arith)
 no-entries-holds : Holds no-entries
 no-entries-holds = holds 10 (omega arith)
 
-just-room-holds : Holds just-room
-just-room-holds = holds 11 (omega arith)
-
 high-unseen-holds : Holds high-unseen
-high-unseen-holds = holds 12 (omega arith)
+high-unseen-holds = holds 11 (omega arith)
 
 two-words-holds : Holds two-words
-two-words-holds = holds 13 (omega arith)
+two-words-holds = holds 12 (omega arith)
+
+three-fit-holds : Holds three-fit
+three-fit-holds = holds 13 (omega arith)
 
 -- Two outcomes on the same output have the same first entry.
 first-entry : {s out : List ℕ} {a b : Answer} {x y : ℕ} {rest more : List ℕ} → Judges s out a (x ∷ rest) → Judges s out b (y ∷ more) → x ≡ y
@@ -202,10 +200,14 @@ all-at-zero-refused j =
     let z : _≡_ {A = ℕ} 0 2 = first-entry j p8-holds in
     omega arith
 
--- A judge that chooses the newest fit.
-pub newest-fit-refused : {answer : Answer} {rest : List ℕ} → Judges (p10 .bytes) (p10 .out) answer (2 ∷ rest) → ⊥
-newest-fit-refused j =
-    let z : _≡_ {A = ℕ} 2 0 = first-entry j p10-holds in
+-- A judge that chooses the newest fit: for the first read of P10 that is 2, and then the second has no place.
+pub newest-fit-refused : {out after : List ℕ} {place : ℕ} → Judges (p10 .bytes) out (Refused NoPlace place) after → ⊥
+newest-fit-refused j = accepted-not-none (p10-holds .judgement) (j .judgement)
+
+-- Nor is the newest fit given where it would do: 3.
+pub newest-entry-refused : {answer : Answer} {rest : List ℕ} → Judges (three-fit .bytes) (three-fit .out) answer (3 ∷ rest) → ⊥
+newest-entry-refused j =
+    let z : _≡_ {A = ℕ} 3 1 = first-entry j three-fit-holds in
     omega arith
 
 -- A judge that takes equal words for the same write.
@@ -228,10 +230,10 @@ no-place-before-room-refused j =
     let e = judges-unique j no-entries-holds .0 in
     apart cc
 
--- A judge that writes an entry where it refuses.
-pub entries-touched-refused : {answer : Answer} → Judges (p7 .bytes) (9 ∷ []) answer (0 ∷ []) → ⊥
+-- A judge that writes each entry as it places a read, and so has written one when a later read has no place.
+pub entries-touched-refused : {answer : Answer} {rest : List ℕ} → Judges (p9 .bytes) (p9 .out) answer (1 ∷ rest) → ⊥
 entries-touched-refused j =
-    let z : _≡_ {A = ℕ} 0 9 = first-entry j just-room-holds in
+    let z : _≡_ {A = ℕ} 1 9 = first-entry j p9-holds in
     omega arith
 
 -- A judge that compares fewer than n words.

@@ -1,4 +1,4 @@
-pub mod Runs
+pub mod Numbers
 pub mod Steps
 pub mod Onward
 pub mod Scans
