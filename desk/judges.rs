@@ -171,7 +171,7 @@ fn check_random(log: &[u8], random: &mut Random) -> Result<u64, String> {
     Ok(answer)
 }
 
-// Prints the first difference of each part, then what came among the random logs.
+// Prints the first difference of each part, or where there is none what came among the random logs.
 fn check(seed: u64, count: usize) -> Result<String, String> {
     let fixed = fixed_logs();
     let found: Vec<String> = fixed

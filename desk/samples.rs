@@ -3,8 +3,8 @@
 // Run by: target/desk/samples samples
 //
 // A sample is a move file (NAME.moves), which is run, or a log (NAME.log), which is judged. Its answer file (NAME.moves.answer,
-// NAME.log.answer) has a line `NUMBER PLACE` of the refusal table. Where it is accepted a line follows: the bytes of a move file's log
-// in hex, or a log's placing in decimal; `fnv1a` and the hash where these are above 64 bytes, four bytes an entry. A first line
+// NAME.log.answer) has a line `NUMBER PLACE` of the refusal table. Where something is written a line follows: the bytes of a move file's
+// log in hex, or a log's placing in decimal; `fnv1a` and the hash where these are above 64 bytes, four bytes an entry. A first line
 // `room N` lends N bytes for the log, or N entries for the placing; without it 24,576 bytes or 2,048 entries are lent.
 
 use std::error::Error;
@@ -81,7 +81,9 @@ fn call(
     let (before, rest) = lent.split_at(GUARD);
     let (out, after) = rest.split_at(written);
     if before.iter().chain(after).any(|&byte| byte != fill) {
-        return Err(format!("{line}, with a byte outside the output altered"));
+        return Err(format!(
+            "{line}, with a byte altered outside what is to be written"
+        ));
     }
     Ok((answer, out.to_vec()))
 }

@@ -1,6 +1,6 @@
 // Counts what came among the compared logs, and says whether that is enough.
 
-use crate::numbers::{Item, LONGEST};
+use crate::numbers::Item;
 use crate::plain_judge::{read, writes_of};
 
 // The answers that a judge may give.
@@ -31,23 +31,19 @@ impl Tally {
         self.logs += 1;
         let number = (answer >> 32) as usize;
         self.answers[number] += 1;
-        match log.first() {
-            Some(&n) if log.len() <= LONGEST && (1..=8).contains(&n) => {
-                self.widths[n as usize] += 1;
-            }
-            _ => {}
-        }
-        if number == 0 && answer as u32 >= MANY_READS {
-            let equal = read(log).is_ok_and(|log| some_are_equal(&writes_of(&log)));
-            self.with_equal_items += usize::from(equal);
-        }
+        let Ok(log) = read(log) else {
+            return;
+        };
+        self.widths[log.n] += usize::from([0, 10, 11].contains(&number));
+        let many = number == 0 && answer as u32 >= MANY_READS;
+        self.with_equal_items += usize::from(many && some_are_equal(&writes_of(&log)));
     }
 
     pub fn print(&self) {
         for number in NUMBERS {
             println!("{number:2} {:8} {:7}", NAMES[number], self.answers[number]);
         }
-        println!("width 1 to 8: {:?}", &self.widths[1..]);
+        println!("lawful, of width 1 to 8: {:?}", &self.widths[1..]);
         println!(
             "accepted with {MANY_READS} or more reads and equal items: {}",
             self.with_equal_items
