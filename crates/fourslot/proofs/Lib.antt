@@ -1,0 +1,12 @@
+pub mod Every
+pub mod Control
+pub mod Numbers
+pub mod Moves
+pub mod Stages
+pub mod Words
+pub mod Apart
+pub mod Invariant
+pub mod Placed
+pub mod Runs
+pub mod Theorem
+pub mod Judged

@@ -1,0 +1,223 @@
+-- The invariant along a run: its finished reads have true numbers, and these are a placing of its events.
+-- Assumes nothing.
+use Prim.Native.Nat.{ℕ, suc, _+_, _-_, _≤_, _<_}
+use native.Mathlib.Nat.{le-refl, add-zero}
+use native.Mathlib.Numerals.{add-one}
+use native.Mathlib.Omega.{arith}
+use native.Mathlib.Decide.{decLt}
+use mathlib.Core.Path.{_≡_, refl, sym, ap, _∙_}
+use mathlib.Core.Bool.{true, false}
+use mathlib.Core.List.{List, [], _∷_, _++_}
+use lib.ListN.{getD, drop, replicate}
+use lib.Seq.{getD-drop, drop-drop}
+use lib.Dec.{eqb}
+use borrow.Table.Steps.{cases}
+use Rattle.control.specs.declared.Step.{Step}
+use Rattle.control.specs.Simpson.{Writer, Reader, simpson}
+use Rattle.control.specs.Step.{step}
+use Rattle.machine.specs.declared.State.{State}
+use Rattle.machine.specs.Machine.{writerAfter, readerAfter, writerMove, readerMove}
+use Rattle.history.specs.Event.{Event}
+use Rattle.history.specs.Reads.{written, readsAfter}
+use Rattle.runs.specs.Run.{Bench, Ran, before, run, ofWriter, ofReader, writes, reads, fourSlots}
+use Rattle.runs.proofs.Runs.{Deal, Took, Skipped, run-all}
+use Rattle.fourslot.specs.Tags.{Tags, Tagged, tagStore, tagLoad, withTags}
+use Rattle.fourslot.proofs.Control.{WriterStage, w-idle, w-pair, w-index, w-set, ReaderStage, r-idle, r-pair, r-announced, r-index}
+use Rattle.fourslot.proofs.Numbers.{Ghost}
+use Rattle.fourslot.proofs.Moves.{pair-move, index-move, store-move, slot-move, latest-move, take-move, announce-move, point-move, load-move, last-move}
+use Rattle.fourslot.proofs.Stages.{at-sound}
+use Rattle.fourslot.proofs.Placed.{Placed, Borne}
+use Rattle.fourslot.proofs.Invariant.{Inv, inv-pair, inv-index, inv-store, inv-slot, inv-latest, inv-take, inv-announce, inv-point, inv-load, inv-last, last-tags, last-item}
+
+-- A move that was dealt with, and those after it.
+run-on : {S : Type 0} (b : Bench S) (s : S) (k : ℕ) (items : List (List ℕ)) (code : ℕ) (codes : List ℕ) (x : List ℕ)
+    (left : List (List ℕ)) → Deal b s code items x left
+    → run b s k items (code ∷ codes) ≡ before (b .move s code x .events) (run b (b .move s code x .state) (suc k) left codes)
+unfolding run
+run-on b s k items code codes x left (Took t l) = rw (t, l)
+run-on b s k items code codes x left (Skipped t z l) = rw (t, l, z)
+
+-- The machine's deal is also the tagged machine's.
+with-tags : (s : State) (t : Tags) (code : ℕ) (items : List (List ℕ)) (x : List ℕ) (left : List (List ℕ))
+    → Deal (fourSlots simpson) s code items x left → Deal (withTags simpson) (record { state = s; tags = t }) code items x left
+with-tags s t code items x left (Took h l) = Took h l
+with-tags s t code items x left (Skipped h z l) = Skipped h z l
+
+abbrev beside : State → Tags → Tagged
+beside s t = record { state = s; tags = t }
+
+-- The first of what is left of a list.
+drop-first : (m : ℕ) (all : List (List ℕ)) (x : List ℕ) (xs : List (List ℕ)) → drop m all ≡ x ∷ xs
+    → (getD all m [] ≡ x) × (drop (suc m) all ≡ xs)
+drop-first m all x xs e = (
+  ap (λ (k : ℕ). getD all k []) (sym (add-zero m)) ∙ sym (getD-drop m all 0 []) ∙ ap (λ (l : List (List ℕ)). getD l 0 []) e,
+  ap (λ (k : ℕ). drop k all) (sym (add-one m)) ∙ sym (drop-drop 1 m all) ∙ ap (drop 1) e,
+)
+
+-- `all` has the item of each number of the whole run.
+module _ (all : List (List ℕ)) where
+  abbrev itemOf : ℕ → List ℕ
+  itemOf w = getD all w []
+
+  -- What holds of the moves to come.
+  pub record Result (s : State) (t : Tags) (g : Ghost) (k calls last : ℕ) (items : List (List ℕ)) (codes : List ℕ) (es : List Event)
+      : Type 0 where
+    pub tags : List Event
+    pub tagged : run (withTags simpson) (beside s t) k items codes ≡ Ran tags
+    pub numbers : List ℕ
+    pub borne : Borne (s .control .n) (readsAfter (t .called) (g .returned) calls (g .low) tags) numbers
+    pub placed : Placed all last (readsAfter (t .called) (g .returned) calls (g .low) es) numbers
+
+  -- From any state of which the invariant holds, the last read before having had a number that is not greater than what was taken.
+  abbrev Claim : State → List (List ℕ) → List ℕ → List Event → Type 0
+  Claim s items codes es =
+      (ws : WriterStage) (rs : ReaderStage) (t : Tags) (g : Ghost) (k calls last : ℕ) → Inv itemOf ws rs s t g
+      → drop (suc (t .called)) all ≡ written es → last ≤ g .taken → Result s t g k calls last items codes es
+
+  module _ (s : State) (items : List (List ℕ)) (code : ℕ) (x : List ℕ) (left : List (List ℕ)) (codes : List ℕ) (es : List Event)
+      (d : Deal (fourSlots simpson) s code items x left) where
+    -- The tagged run, a move of the writer and those after it.
+    tagged-write : (st : Step) (t : Tags) (k : ℕ) (fs : List Event) → eqb code 0 ≡ true → step simpson Writer (s .control) ≡ st
+        → run (withTags simpson) (beside (writerAfter st s x .state) (tagStore st t)) (suc k) left codes ≡ Ran fs
+        → run (withTags simpson) (beside s t) k items (code ∷ codes)
+        ≡ Ran (ofWriter (st .happened) (replicate 8 (tagStore st t .called)) ++ fs)
+    tagged-write st t k fs e q r =
+        run-on (withTags simpson) (beside s t) k items code codes x left (with-tags s t code items x left d) ∙ rw (e, q, r)
+
+    write-claim : (ws : WriterStage) (rs : ReaderStage) (t : Tags) (g : Ghost) (k calls last : ℕ) → eqb code 0 ≡ true
+        → Inv itemOf ws rs s t g
+        → Claim (writerMove simpson s x .state) left codes es
+        → drop (suc (t .called)) all ≡ written (writes (writerMove simpson s x) .events ++ es) → last ≤ g .taken
+        → Result s t g k calls last items (code ∷ codes) (writes (writerMove simpson s x) .events ++ es)
+    unfolding writerAfter written readsAfter
+    write-claim w-idle rs t g k calls last e h =
+        let q = pair-move (s .control) (at-sound (h .at)) (h .at .writer) in
+        rw q λ ih future le.
+        let next = drop-first (suc (t .called)) all _ (written es) future in
+        let r = ih w-pair rs _ g (suc k) calls last (inv-pair itemOf rs s t g x (next .0) h) (next .1) le in
+        record { tags = _; tagged = tagged-write _ t k _ e q (r .tagged); numbers = _; borne = r .borne; placed = r .placed }
+    write-claim w-pair rs t g k calls last e h =
+        let q = index-move (s .control) (at-sound (h .at)) (h .at .writer) in
+        rw q λ ih future le.
+        let r = ih w-index rs _ g (suc k) calls last (inv-index itemOf rs s t g h) future le in
+        record { tags = _; tagged = tagged-write _ t k _ e q (r .tagged); numbers = _; borne = r .borne; placed = r .placed }
+    write-claim w-index rs t g k calls last e h = at-word (decLt (s .control .writer .phase) (2 + s .control .n))
+      where
+        at-word : Dec (s .control .writer .phase < 2 + s .control .n)
+            → Claim (writerMove simpson s x .state) left codes es
+            → drop (suc (t .called)) all ≡ written (writes (writerMove simpson s x) .events ++ es) → last ≤ g .taken
+            → Result s t g k calls last items (code ∷ codes) (writes (writerMove simpson s x) .events ++ es)
+        at-word (yes l) =
+            let j = s .control .writer .phase - 2 in
+            let is : s .control .writer .phase ≡ 2 + j = omega (arith, h .at .writer .0) in
+            let less : j < s .control .n = omega arith in
+            let q = store-move (s .control) (at-sound (h .at)) j is less in
+            rw q λ ih future le.
+            let r = ih w-index rs _ g (suc k) calls last (inv-store itemOf rs s t g j is less h) future le in
+            record { tags = _; tagged = tagged-write _ t k _ e q (r .tagged); numbers = _; borne = r .borne; placed = r .placed }
+        at-word (no m) =
+            let is : s .control .writer .phase ≡ 2 + s .control .n = omega (arith, h .at .writer .1) in
+            let q = slot-move (s .control) (at-sound (h .at)) is in
+            rw q λ ih future le.
+            let r = ih w-set rs _ _ (suc k) calls last (inv-slot itemOf rs s t g is h) future le in
+            record { tags = _; tagged = tagged-write _ t k _ e q (r .tagged); numbers = _; borne = r .borne; placed = r .placed }
+    write-claim w-set rs t g k calls last e h =
+        let q = latest-move (s .control) (at-sound (h .at)) (h .at .writer) in
+        rw q λ ih future le.
+        let r = ih w-idle rs _ _ (suc k) calls last (inv-latest itemOf rs s t g h) future le in
+        record { tags = _; tagged = tagged-write _ t k _ e q (r .tagged); numbers = _; borne = r .borne; placed = r .placed }
+
+    -- And a move of the reader.
+    tagged-read : (st : Step) (t : Tags) (k : ℕ) (fs : List Event) → eqb code 0 ≡ false → step simpson Reader (s .control) ≡ st
+        → run (withTags simpson) (beside (readerAfter st s .state) (tagLoad st t)) (suc k) left codes ≡ Ran fs
+        → run (withTags simpson) (beside s t) k items (code ∷ codes) ≡ Ran (ofReader (st .happened) (tagLoad st t .loaded) ++ fs)
+    tagged-read st t k fs e q r =
+        run-on (withTags simpson) (beside s t) k items code codes x left (with-tags s t code items x left d) ∙ rw (e, q, r)
+
+    read-claim : (ws : WriterStage) (rs : ReaderStage) (t : Tags) (g : Ghost) (k calls last : ℕ) → eqb code 0 ≡ false
+        → Inv itemOf ws rs s t g
+        → Claim (readerMove simpson s .state) left codes es
+        → drop (suc (t .called)) all ≡ written (reads (readerMove simpson s) .events ++ es) → last ≤ g .taken
+        → Result s t g k calls last items (code ∷ codes) (reads (readerMove simpson s) .events ++ es)
+    unfolding readerAfter written readsAfter Borne Placed
+    read-claim ws r-idle t g k calls last e h =
+        let q = take-move (s .control) (at-sound (h .at)) (h .at .reader) in
+        rw q λ ih future le.
+        let r = ih ws r-pair _ _ (suc k) (suc calls) last (inv-take itemOf ws s t g h) future le in
+        record { tags = _; tagged = tagged-read _ t k _ e q (r .tagged); numbers = _; borne = r .borne; placed = r .placed }
+    read-claim ws r-pair t g k calls last e h =
+        let q = announce-move (s .control) (at-sound (h .at)) (h .at .reader) in
+        rw q λ ih future le.
+        let r = ih ws r-announced _ g (suc k) calls last (inv-announce itemOf ws s t g h) future le in
+        record { tags = _; tagged = tagged-read _ t k _ e q (r .tagged); numbers = _; borne = r .borne; placed = r .placed }
+    read-claim ws r-announced t g k calls last e h =
+        let q = point-move (s .control) (at-sound (h .at)) (h .at .reader) (h .at .low) in
+        rw q λ ih future le.
+        let r = ih ws r-index _ _ (suc k) calls last (inv-point itemOf ws s t g h) future (omega (arith, h .numbers .not-older tt)) in
+        record { tags = _; tagged = tagged-read _ t k _ e q (r .tagged); numbers = _; borne = r .borne; placed = r .placed }
+    read-claim ws r-index t g k calls last e h = at-word (decLt (s .control .reader .phase) (2 + s .control .n))
+      where
+        j : ℕ
+        j = s .control .reader .phase - 3
+
+        is : s .control .reader .phase ≡ 3 + j
+        is = omega (arith, h .at .reader .0)
+
+        less : j < s .control .n
+        less = omega (arith, h .at .reader .0, h .at .reader .1)
+
+        at-word : Dec (s .control .reader .phase < 2 + s .control .n)
+            → Claim (readerMove simpson s .state) left codes es
+            → drop (suc (t .called)) all ≡ written (reads (readerMove simpson s) .events ++ es) → last ≤ g .taken
+            → Result s t g k calls last items (code ∷ codes) (reads (readerMove simpson s) .events ++ es)
+        at-word (yes l) =
+            let q = load-move (s .control) (at-sound (h .at)) j is (omega arith) in
+            rw q λ ih future le.
+            let r = ih ws r-index _ g (suc k) calls last (inv-load itemOf ws s t g j is less h (omega arith)) future le in
+            record { tags = _; tagged = tagged-read _ t k _ e q (r .tagged); numbers = _; borne = r .borne; placed = r .placed }
+        at-word (no m) =
+            let full : 1 + j ≡ s .control .n = omega (arith, h .at .reader .1) in
+            let q = last-move (s .control) (at-sound (h .at)) j is full in
+            rw q λ ih future le.
+            let r = ih ws r-idle _ g (suc k) calls (g .taken) (inv-last itemOf ws s t g j is less h) future (le-refl _) in
+            record {
+              tags = _;
+              tagged = tagged-read _ t k _ e q (r .tagged);
+              numbers = g .taken ∷ r .numbers;
+              borne = (last-tags itemOf ws s t g j is less h full, r .borne);
+              placed = (
+                record {
+                  at-least-low = h .numbers .held tt;
+                  at-most-high = omega (arith, h .numbers .order, h .numbers .most (s .control .bits .latest));
+                  same-item = last-item itemOf ws s t g j is less h full;
+                },
+                le,
+                r .placed,
+              );
+            }
+
+  no-moves : (s : State) (items : List (List ℕ)) → Claim s items [] []
+  unfolding run readsAfter Borne Placed
+  no-moves s items ws rs t g k calls last h future le = record { tags = []; tagged = refl; numbers = []; borne = tt; placed = tt }
+
+  one-more : (s : State) (items : List (List ℕ)) (code : ℕ) (x : List ℕ) (left : List (List ℕ))
+      → Deal (fourSlots simpson) s code items x left → (codes : List ℕ) (es : List Event)
+      → Claim (fourSlots simpson .move s code x .state) left codes es
+      → Claim s items (code ∷ codes) (fourSlots simpson .move s code x .events ++ es)
+  one-more s items code x left d codes es =
+      cases (eqb code 0)
+      (λ e. rw e λ ih ws rs t g k calls last h. write-claim s items code x left codes es d ws rs t g k calls last e h ih)
+      (λ e. rw e λ ih ws rs t g k calls last h. read-claim s items code x left codes es d ws rs t g k calls last e h ih)
+
+  -- The claim, for every run.
+  pub run-claim : (s : State) (k : ℕ) (items : List (List ℕ)) (codes : List ℕ) (es : List Event)
+      → run (fourSlots simpson) s k items codes ≡ Ran es → Claim s items codes es
+  run-claim s k items codes es =
+      run-all (fourSlots simpson) (λ s items. Unit {0}) Claim (λ s items u. no-moves s items)
+      (λ s items code x left u d. (tt, λ codes es ih. one-more s items code x left d codes es ih))
+      s
+      k
+      items
+      codes
+      es
+      tt
