@@ -7,7 +7,7 @@ use native.Mathlib.Omega.{arith}
 use native.Mathlib.Decide.{decLt}
 use mathlib.Core.Path.{_≡_, refl, sym, ap, _∙_}
 use mathlib.Core.Bool.{true, false}
-use mathlib.Core.List.{List, [], _∷_, _++_}
+use mathlib.Core.List.{List, [], _∷_, _++_, map}
 use lib.ListN.{getD, drop, replicate}
 use lib.Seq.{getD-drop, drop-drop}
 use lib.Dec.{eqb}
@@ -17,7 +17,8 @@ use Rattle.control.specs.Simpson.{Writer, Reader, simpson}
 use Rattle.control.specs.Step.{step}
 use Rattle.machine.specs.declared.State.{State}
 use Rattle.machine.specs.Machine.{writerAfter, readerAfter, writerMove, readerMove}
-use Rattle.history.specs.Event.{Event}
+use Rattle.history.specs.declared.Kind.the-variants.{WriteCalled, WriteReturned, ReadCalled, ReadReturned}
+use Rattle.history.specs.Event.{Event, kindOf}
 use Rattle.history.specs.Reads.{written, readsAfter}
 use Rattle.runs.specs.Run.{Bench, Ran, before, run, ofWriter, ofReader, writes, reads, fourSlots}
 use Rattle.runs.proofs.Runs.{Deal, Took, Skipped, run-all}
@@ -64,6 +65,7 @@ module _ (all : List (List ℕ)) where
       : Type 0 where
     pub tags : List Event
     pub tagged : run (withTags simpson) (beside s t) k items codes ≡ Ran tags
+    pub kinds : map kindOf tags ≡ map kindOf es
     pub numbers : List ℕ
     pub borne : Borne (s .control .n) (readsAfter (t .called) (g .returned) calls (g .low) tags) numbers
     pub placed : Placed all last (readsAfter (t .called) (g .returned) calls (g .low) es) numbers
@@ -95,12 +97,26 @@ module _ (all : List (List ℕ)) where
         rw q λ ih future le.
         let next = drop-first (suc (t .called)) all _ (written es) future in
         let r = ih w-pair rs _ g (suc k) calls last (inv-pair itemOf rs s t g x (next .0) h) (next .1) le in
-        record { tags = _; tagged = tagged-write _ t k _ e q (r .tagged); numbers = _; borne = r .borne; placed = r .placed }
+        record {
+          tags = _;
+          tagged = tagged-write _ t k _ e q (r .tagged);
+          kinds = ap (_∷_ WriteCalled) (r .kinds);
+          numbers = _;
+          borne = r .borne;
+          placed = r .placed;
+        }
     write-claim w-pair rs t g k calls last e h =
         let q = index-move (s .control) (at-sound (h .at)) (h .at .writer) in
         rw q λ ih future le.
         let r = ih w-index rs _ g (suc k) calls last (inv-index itemOf rs s t g h) future le in
-        record { tags = _; tagged = tagged-write _ t k _ e q (r .tagged); numbers = _; borne = r .borne; placed = r .placed }
+        record {
+          tags = _;
+          tagged = tagged-write _ t k _ e q (r .tagged);
+          kinds = r .kinds;
+          numbers = _;
+          borne = r .borne;
+          placed = r .placed;
+        }
     write-claim w-index rs t g k calls last e h = at-word (decLt (s .control .writer .phase) (2 + s .control .n))
       where
         at-word : Dec (s .control .writer .phase < 2 + s .control .n)
@@ -114,18 +130,39 @@ module _ (all : List (List ℕ)) where
             let q = store-move (s .control) (at-sound (h .at)) j is less in
             rw q λ ih future le.
             let r = ih w-index rs _ g (suc k) calls last (inv-store itemOf rs s t g j is less h) future le in
-            record { tags = _; tagged = tagged-write _ t k _ e q (r .tagged); numbers = _; borne = r .borne; placed = r .placed }
+            record {
+              tags = _;
+              tagged = tagged-write _ t k _ e q (r .tagged);
+              kinds = r .kinds;
+              numbers = _;
+              borne = r .borne;
+              placed = r .placed;
+            }
         at-word (no m) =
             let is : s .control .writer .phase ≡ 2 + s .control .n = omega (arith, h .at .writer .1) in
             let q = slot-move (s .control) (at-sound (h .at)) is in
             rw q λ ih future le.
             let r = ih w-set rs _ _ (suc k) calls last (inv-slot itemOf rs s t g is h) future le in
-            record { tags = _; tagged = tagged-write _ t k _ e q (r .tagged); numbers = _; borne = r .borne; placed = r .placed }
+            record {
+              tags = _;
+              tagged = tagged-write _ t k _ e q (r .tagged);
+              kinds = r .kinds;
+              numbers = _;
+              borne = r .borne;
+              placed = r .placed;
+            }
     write-claim w-set rs t g k calls last e h =
         let q = latest-move (s .control) (at-sound (h .at)) (h .at .writer) in
         rw q λ ih future le.
         let r = ih w-idle rs _ _ (suc k) calls last (inv-latest itemOf rs s t g h) future le in
-        record { tags = _; tagged = tagged-write _ t k _ e q (r .tagged); numbers = _; borne = r .borne; placed = r .placed }
+        record {
+          tags = _;
+          tagged = tagged-write _ t k _ e q (r .tagged);
+          kinds = ap (_∷_ WriteReturned) (r .kinds);
+          numbers = _;
+          borne = r .borne;
+          placed = r .placed;
+        }
 
     -- And a move of the reader.
     tagged-read : (st : Step) (t : Tags) (k : ℕ) (fs : List Event) → eqb code 0 ≡ false → step simpson Reader (s .control) ≡ st
@@ -144,17 +181,38 @@ module _ (all : List (List ℕ)) where
         let q = take-move (s .control) (at-sound (h .at)) (h .at .reader) in
         rw q λ ih future le.
         let r = ih ws r-pair _ _ (suc k) (suc calls) last (inv-take itemOf ws s t g h) future le in
-        record { tags = _; tagged = tagged-read _ t k _ e q (r .tagged); numbers = _; borne = r .borne; placed = r .placed }
+        record {
+          tags = _;
+          tagged = tagged-read _ t k _ e q (r .tagged);
+          kinds = ap (_∷_ ReadCalled) (r .kinds);
+          numbers = _;
+          borne = r .borne;
+          placed = r .placed;
+        }
     read-claim ws r-pair t g k calls last e h =
         let q = announce-move (s .control) (at-sound (h .at)) (h .at .reader) in
         rw q λ ih future le.
         let r = ih ws r-announced _ g (suc k) calls last (inv-announce itemOf ws s t g h) future le in
-        record { tags = _; tagged = tagged-read _ t k _ e q (r .tagged); numbers = _; borne = r .borne; placed = r .placed }
+        record {
+          tags = _;
+          tagged = tagged-read _ t k _ e q (r .tagged);
+          kinds = r .kinds;
+          numbers = _;
+          borne = r .borne;
+          placed = r .placed;
+        }
     read-claim ws r-announced t g k calls last e h =
         let q = point-move (s .control) (at-sound (h .at)) (h .at .reader) (h .at .low) in
         rw q λ ih future le.
         let r = ih ws r-index _ _ (suc k) calls last (inv-point itemOf ws s t g h) future (omega (arith, h .numbers .not-older tt)) in
-        record { tags = _; tagged = tagged-read _ t k _ e q (r .tagged); numbers = _; borne = r .borne; placed = r .placed }
+        record {
+          tags = _;
+          tagged = tagged-read _ t k _ e q (r .tagged);
+          kinds = r .kinds;
+          numbers = _;
+          borne = r .borne;
+          placed = r .placed;
+        }
     read-claim ws r-index t g k calls last e h = at-word (decLt (s .control .reader .phase) (2 + s .control .n))
       where
         j : ℕ
@@ -174,7 +232,14 @@ module _ (all : List (List ℕ)) where
             let q = load-move (s .control) (at-sound (h .at)) j is (omega arith) in
             rw q λ ih future le.
             let r = ih ws r-index _ g (suc k) calls last (inv-load itemOf ws s t g j is less h (omega arith)) future le in
-            record { tags = _; tagged = tagged-read _ t k _ e q (r .tagged); numbers = _; borne = r .borne; placed = r .placed }
+            record {
+              tags = _;
+              tagged = tagged-read _ t k _ e q (r .tagged);
+              kinds = r .kinds;
+              numbers = _;
+              borne = r .borne;
+              placed = r .placed;
+            }
         at-word (no m) =
             let full : 1 + j ≡ s .control .n = omega (arith, h .at .reader .1) in
             let q = last-move (s .control) (at-sound (h .at)) j is full in
@@ -183,6 +248,7 @@ module _ (all : List (List ℕ)) where
             record {
               tags = _;
               tagged = tagged-read _ t k _ e q (r .tagged);
+              kinds = ap (_∷_ ReadReturned) (r .kinds);
               numbers = g .taken ∷ r .numbers;
               borne = (last-tags itemOf ws s t g j is less h full, r .borne);
               placed = (
@@ -198,7 +264,8 @@ module _ (all : List (List ℕ)) where
 
   no-moves : (s : State) (items : List (List ℕ)) → Claim s items [] []
   unfolding run readsAfter Borne Placed
-  no-moves s items ws rs t g k calls last h future le = record { tags = []; tagged = refl; numbers = []; borne = tt; placed = tt }
+  no-moves s items ws rs t g k calls last h future le =
+      record { tags = []; tagged = refl; kinds = refl; numbers = []; borne = tt; placed = tt }
 
   one-more : (s : State) (items : List (List ℕ)) (code : ℕ) (x : List ℕ) (left : List (List ℕ))
       → Deal (fourSlots simpson) s code items x left → (codes : List ℕ) (es : List Event)

@@ -86,6 +86,7 @@ every-run-placed n initial items codes es w ran =
     record {
       tags = r .tags;
       tagged = rw from (r .tagged);
+      same-kinds = r .kinds;
       numbers = r .numbers;
       true-numbers =
           record {

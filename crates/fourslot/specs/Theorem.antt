@@ -2,7 +2,7 @@
 use Prim.Native.Nat.{ℕ, _≤_, _<_}
 use mathlib.Core.Path.{_≡_}
 use mathlib.Core.Bool.{true}
-use mathlib.Core.List.{List, [], _∷_}
+use mathlib.Core.List.{List, [], _∷_, map}
 use lib.ListN.{length, getD, take}
 use Rattle.refusals.specs.declared.Answer.{Answer}
 use Rattle.refusals.specs.declared.Answer.the-variants.{Accepted}
@@ -14,7 +14,7 @@ use Rattle.control.specs.declared.Touched.the-variants.{Word}
 use Rattle.control.specs.Simpson.{Writer, Reader, Procedures, simpson}
 use Rattle.control.specs.Step.{step, occupies}
 use Rattle.machine.specs.Machine.{firstWords}
-use Rattle.history.specs.Event.{Event}
+use Rattle.history.specs.Event.{Event, kindOf}
 use Rattle.history.specs.Reads.{written, numbered, readsOf}
 use Rattle.history.specs.Placing.{readAt, Placing, Earliest}
 use Rattle.runs.specs.Run.{Bench, dealt, Ran, run, fourSlots, fourAnswer, fourLog}
@@ -32,10 +32,11 @@ TagsTo n initial items codes tags = run (withTags simpson) (withTags simpson .st
 abbrev pub itemsOf : ℕ → List ℕ → List Event → List (List ℕ)
 itemsOf n initial es = numbered (firstWords n initial) es
 
--- A run's finished reads have true numbers, and these are a placing of its events.
+-- A run's events have tags, event by event; its finished reads have true numbers, and these are a placing of its events.
 pub record TrulyPlaced (n : ℕ) (initial : List ℕ) (items : List (List ℕ)) (codes : List ℕ) (es : List Event) : Type 0 where
   pub tags : List Event
   pub tagged : TagsTo n initial items codes tags
+  pub same-kinds : map kindOf tags ≡ map kindOf es
   pub numbers : List ℕ
   pub true-numbers : TrueNumbers n tags numbers
   pub placing : Placing (itemsOf n initial es) (readsOf es) (length (readsOf es)) numbers
