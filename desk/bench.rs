@@ -2,6 +2,7 @@
 // Built by: rustc -O desk/bench.rs -L target/staticlib -l static=host --out-dir target/desk
 // Run by: target/desk/bench, which measures, or target/desk/bench samples, which only compares the two on the samples.
 
+mod library;
 mod numbers;
 mod plain;
 
@@ -10,19 +11,11 @@ use std::hint::black_box;
 use std::ops::Range;
 use std::time::Instant;
 
-extern "C" {
-    fn kantsufel_run(moves: *const u8, moves_len: usize, log: *mut u8, log_len: usize) -> u64;
-}
-
 type Run = fn(&[u8], &mut [u8]) -> u64;
 
-const RUNNERS: [Run; 2] = [plain::run, ours];
+const RUNNERS: [Run; 2] = [plain::run, library::run];
 const ROUNDS: usize = 201;
 const RUNS_A_ROUND: u32 = 5;
-
-fn ours(file: &[u8], log: &mut [u8]) -> u64 {
-    unsafe { kantsufel_run(file.as_ptr(), file.len(), log.as_mut_ptr(), log.len()) }
-}
 
 // The answer of both to a file with this room. It must be the same, and so must what they leave in the output.
 fn agreed(name: &str, file: &[u8], room: usize) -> u64 {

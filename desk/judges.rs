@@ -5,6 +5,7 @@
 
 mod fixed_logs;
 mod full_logs;
+mod library;
 mod numbers;
 mod plain_judge;
 mod random;
@@ -20,18 +21,13 @@ use std::error::Error;
 use std::process::ExitCode;
 use tally::Tally;
 
-extern "C" {
-    fn kantsufel_judge(log: *const u8, log_len: usize, entries: *mut u8, entries_len: usize)
-        -> u64;
-}
-
 // A log, and the bytes that are lent for entries.
 type Judge = fn(&[u8], &mut [u8]) -> u64;
 
 const JUDGES: [(&str, Judge); 3] = [
     ("plain", plain),
     ("plain forward", plain_forward),
-    ("ours", ours),
+    ("ours", library::judge),
 ];
 
 // Bytes before and after the lent ones, which no judge may touch.
@@ -44,10 +40,6 @@ const MOST_READS: usize = 2_048;
 
 // A log with so few reads is compared with every number of bytes lent.
 const FEW_READS: usize = 6;
-
-fn ours(log: &[u8], entries: &mut [u8]) -> u64 {
-    unsafe { kantsufel_judge(log.as_ptr(), log.len(), entries.as_mut_ptr(), entries.len()) }
-}
 
 // A judge on as many numbers as the bytes hold whole, each put into four of them, lowest first.
 fn in_bytes(judge: fn(&[u8], &mut [u32]) -> u64, log: &[u8], entries: &mut [u8]) -> u64 {

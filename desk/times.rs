@@ -1,8 +1,9 @@
 // Times the library's judge beside the plain one that walks forward, on full logs and in interleaved rounds.
 
 use crate::full_logs::{full_log, Kind};
+use crate::library;
 use crate::plain_judge::judge_forward;
-use crate::{agreed, ours, MOST_READS};
+use crate::{agreed, MOST_READS};
 use std::hint::black_box;
 use std::time::Instant;
 
@@ -22,7 +23,7 @@ fn medians(log: &[u8]) -> ([f64; 2], usize) {
         let plain = microseconds(|| judge_forward(black_box(log), black_box(&mut numbers)));
         [
             plain,
-            microseconds(|| ours(black_box(log), black_box(&mut bytes))),
+            microseconds(|| library::judge(black_box(log), black_box(&mut bytes))),
         ]
     };
     let once: f64 = round().iter().sum();

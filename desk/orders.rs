@@ -1,0 +1,79 @@
+// Tries every order of moves: a search beside the proof, and no part of it.
+// Built by: rustc -O desk/orders.rs -L target/staticlib -l static=host --out-dir target/desk
+// Run by: target/desk/orders states N WRITES, which tries the invariants in every state that width N reaches with at most WRITES writes
+// called; target/desk/orders control, which tries the control invariant in every control state, reached or not;
+// target/desk/orders wrong, which finds out wrong procedures; or target/desk/orders lists N MOVES, which has the library run and judge
+// every list of MOVES moves.
+
+mod control_states;
+mod invariants;
+mod library;
+mod log_lines;
+mod move_lists;
+mod numbers;
+mod plain_judge;
+mod procedures;
+mod search;
+mod stages;
+mod tagged;
+mod tagged_logs;
+mod wrong_orders;
+
+use move_lists::MOST_MOVES;
+use procedures::SIMPSON;
+use search::{in_rows, search};
+use std::error::Error;
+use std::process::ExitCode;
+
+fn width(argument: &str) -> Result<usize, Box<dyn Error>> {
+    match argument.parse()? {
+        n @ 1..=8 => Ok(n),
+        _ => Err("N is 1 to 8".into()),
+    }
+}
+
+fn length(argument: &str) -> Result<usize, Box<dyn Error>> {
+    match argument.parse()? {
+        moves if moves <= MOST_MOVES => Ok(moves),
+        _ => Err(format!("MOVES is at most {MOST_MOVES}").into()),
+    }
+}
+
+// Tries every invariant in every state, and every finished read.
+fn check_states(n: usize, writes: u8) -> Result<String, String> {
+    let procedures = SIMPSON.with_words(n);
+    let searched = search(&procedures, writes, |state, event| {
+        invariants::check_move(&procedures, state, event)
+    });
+    let reached =
+        searched.map_err(|found| format!("{}\nafter {}", found.what, in_rows(&found.moves)))?;
+    let (states, steps, reads) = (reached.states, reached.steps, reached.reads);
+    Ok(format!(
+        "n = {n}, at most {writes} writes: {states} states, {steps} steps, {reads} of them finish a read; all invariants hold"
+    ))
+}
+
+fn run(arguments: &[&str]) -> Result<String, Box<dyn Error>> {
+    match arguments {
+        ["states", n, writes] => Ok(check_states(width(n)?, writes.parse()?)?),
+        ["control"] => Ok(control_states::check()?),
+        ["wrong"] => Ok(wrong_orders::print_all()?),
+        ["lists", n, moves] => Ok(move_lists::check(width(n)?, length(moves)?)?),
+        _ => Err("wanted: states N WRITES, control, wrong, or lists N MOVES".into()),
+    }
+}
+
+fn main() -> ExitCode {
+    let arguments: Vec<String> = std::env::args().skip(1).collect();
+    let arguments: Vec<&str> = arguments.iter().map(String::as_str).collect();
+    match run(&arguments) {
+        Ok(said) => {
+            println!("orders: {said}");
+            ExitCode::SUCCESS
+        }
+        Err(error) => {
+            println!("orders: {error}");
+            ExitCode::FAILURE
+        }
+    }
+}
