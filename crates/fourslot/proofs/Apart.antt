@@ -4,8 +4,8 @@ use Prim.Native.Nat.{ℕ, _+_, _-_, _≤_, _<_}
 use native.Mathlib.Omega.{arith}
 use native.Mathlib.Decide.{decLt}
 use mathlib.Core.Path.{_≡_, refl, sym}
-use mathlib.Core.Bool.{Bool, true, false}
-use mathlib.Core.List.{List, [], _∷_}
+use mathlib.Core.Bool.{true}
+use mathlib.Core.List.{List}
 use lib.Dec.{eqb}
 use borrow.Table.Steps.{cases}
 use Rattle.refusals.proofs.Apart.{apart}
@@ -18,25 +18,13 @@ use Rattle.control.specs.Step.{step}
 use Rattle.control.proofs.Occupied.{writer-occupies, reader-occupies}
 use Rattle.machine.specs.declared.State.{State}
 use Rattle.machine.specs.Machine.{writerAfter, readerAfter, fresh}
-use Rattle.runs.specs.Run.{Bench, dealt, fourSlots}
-use Rattle.fourslot.specs.Theorem.{lastState, SameSlot, Apart, CoresApart}
+use Rattle.runs.specs.Run.{fourSlots}
+use Rattle.runs.proofs.Runs.{last-all}
+use Rattle.fourslot.specs.Theorem.{SameSlot, Apart, CoresApart}
 use Rattle.fourslot.proofs.Control.{WriterStage, w-idle, w-pair, w-index, w-set, ReaderStage, r-idle, r-pair, r-announced, r-index, never-met, at-start}
 use Rattle.fourslot.proofs.Moves.{pair-move, index-move, store-move, slot-move, latest-move, take-move, announce-move, point-move, load-move, last-move}
 use Rattle.fourslot.proofs.Words.{met}
 use Rattle.fourslot.proofs.Stages.{At, at-sound, at-pair, at-index, at-store, at-slot, at-latest, at-take, at-announce, at-point, at-load, at-done}
-
--- What each move keeps holds in the last state.
-last-all : {S : Type 0} (b : Bench S) (I : S → Type 0) → ((s : S) (code : ℕ) (x : List ℕ) → I s → I (b .move s code x .state))
-    → (codes : List ℕ) (s : S) (items : List (List ℕ)) → I s → I (lastState b s items codes)
-unfolding lastState
-last-all b I keeps [] s items i = i
-last-all {S} b I keeps (code ∷ codes) s items i = go (b .takes s code) items (λ x left. last-all b I keeps codes _ left (keeps s code x i))
-  where
-    go : (t : Bool) (list : List (List ℕ)) → ((x : List ℕ) (left : List (List ℕ)) → I (lastState b (b .move s code x .state) left codes))
-        → I (dealt s t list (λ x left. lastState b (b .move s code x .state) left codes))
-    go true [] ih = i
-    go true (x ∷ left) ih = ih x left
-    go false list ih = ih _ list
 
 -- A control part of which the invariant holds, at some stages.
 abbrev Steady : Control → Type 0
@@ -86,19 +74,22 @@ words-apart w-index r-announced c a l m r same = absurd (omega (arith, a .reader
 words-apart w-index r-index c a l m r same =
     met _ _ _ _ (sym (same .0)) (sym (same .1)) (never-met w-index r-index _ _ _ _ _ _ _ _ (a .test))
 
--- A move that stores is made by a writer at its words.
+-- A move that stores is made by a writer at its words, and leaves it its slot.
 store-within : (ws : WriterStage) (rs : ReaderStage) (c : Control) (k : ℕ) → At ws rs c → step simpson Writer c .touched ≡ Word k
-    → (2 ≤ c .writer .phase) × (c .writer .phase < 2 + c .n)
+    → (2 ≤ c .writer .phase) × (c .writer .phase < 2 + c .n) × (SameSlot (step simpson Writer c .control) → SameSlot c)
 store-within w-idle rs c k a e = let t = rw (pair-move c (at-sound a) (a .writer)) at e in apart cc
 store-within w-pair rs c k a e = let t = rw (index-move c (at-sound a) (a .writer)) at e in apart cc
 store-within w-set rs c k a e = let t = rw (latest-move c (at-sound a) (a .writer)) at e in apart cc
 store-within w-index rs c k a e = go (decLt (c .writer .phase) (2 + c .n))
   where
-    go : Dec (c .writer .phase < 2 + c .n) → (2 ≤ c .writer .phase) × (c .writer .phase < 2 + c .n)
-    go (yes l) = (a .writer .0, l)
+    go : Dec (c .writer .phase < 2 + c .n)
+        → (2 ≤ c .writer .phase) × (c .writer .phase < 2 + c .n) × (SameSlot (step simpson Writer c .control) → SameSlot c)
+    go (yes l) =
+        let q = store-move c (at-sound a) (c .writer .phase - 2) (omega (arith, a .writer .0)) (omega (arith, a .writer .0)) in
+        (a .writer .0, l, rw q (λ same. same))
     go (no m) = let t = rw (slot-move c (at-sound a) (omega (arith, a .writer .1))) at e in apart cc
 
-steady-apart : (c : Control) → Steady c → Apart simpson c
+steady-apart : (c : Control) → Steady c → Apart c
 unfolding simpson
 steady-apart c (ws, rs, a) =
     record {
@@ -107,7 +98,7 @@ steady-apart c (ws, rs, a) =
           let u = writer-occupies c .0 w in
           let v = reader-occupies c .0 r in
           words-apart ws rs c a (omega (arith, u .0)) (u .1) (omega (arith, v .0));
-      stored = λ k e r. let u = store-within ws rs c k a e in words-apart ws rs c a (u .0) (u .1) r;
+      stored = λ k e r same. let u = store-within ws rs c k a e in words-apart ws rs c a (u .0) (u .1) r (u .2 same);
     }
 
 fresh-steady : (n : ℕ) (initial : List ℕ) → isWidth n ≡ true → Steady (fresh n initial .state .control)

@@ -3,7 +3,7 @@
 -- Assumes nothing.
 use mathlib.Core.Bool.{Bool, true, false, not, cond, _&&_, Bool·beq}
 use lib.Dec.{T}
-use Rattle.fourslot.proofs.Every.{Test, both, both-left, both-right, imp, imp-use, all8, at8}
+use Rattle.fourslot.proofs.Every.{Test, and-left, and-right, imp, imp-use, all8, at8}
 
 -- How far the writer is: idle, it has its pair, it has its index (and is at its words), it has set slot[pair].
 pub data WriterStage : Type 0 where
@@ -62,19 +62,18 @@ loading r-index = true
 abbrev same : Bool → Bool → Bool
 same = Bool·beq
 
--- The bits are latest, reading, slot[0], slot[1], the writer's pair and index, the reader's pair and index. Lines 1 to 3: what a core has
--- set or taken is still there. Line 4: a read's index is the one shown until the writer has set slot[pair]. The last four forbid that a
--- read goes back behind the one before.
+-- The bits are latest, reading, slot[0], slot[1], the writer's pair and index, the reader's pair and index.
+-- 1. A pair that was announced is still in reading. 2. The slot that is written is not the one that its pair shows. 3. The slot that is
+-- read is the one that its pair shows, beside a writer of that pair that has not set slot[pair] yet. The last two forbid that a read goes
+-- back behind the one before: 4. a pair that was just taken and is no longer the latest is in reading; 5. while a write goes into the pair
+-- that is not the latest, the latest is in reading.
 pub inv : WriterStage → ReaderStage → Test
 inv ws rs l r s0 s1 wp wi rp ri =
-    both (imp (announced rs) (same r rp))
-    (both (imp (storing ws) (same wi (not (cond wp s1 s0))))
-    (both (imp (committed ws) (same wi (cond wp s1 s0)))
-    (both (imp (loading rs && writing ws && not (committed ws) && same rp wp) (same ri (cond rp s1 s0)))
-    (both (imp (selected rs && not (same rp l)) (same r rp))
-    (both (imp (selected rs && same rp l && writing ws && not (same wp l)) (same r rp))
-    (both (imp (not (selected rs) && writing ws && not (same wp l)) (same r l))
-    (imp (selected rs && not (same rp l) && writing ws) (same wp l))))))))
+    imp (announced rs) (same r rp)
+    && (imp (storing ws) (same wi (not (cond wp s1 s0)))
+    && (imp (loading rs && writing ws && not (committed ws) && same rp wp) (same ri (cond rp s1 s0))
+    && (imp (selected rs && not (same rp l)) (same r rp)
+    && imp (writing ws && not (same wp l)) (same r l))))
 
 -- The invariant after the writer's move to its next stage, and after the reader's; a move at a word changes no bit.
 abbrev pub writerKeeps : WriterStage → ReaderStage → Test
@@ -99,68 +98,70 @@ unmet ws rs l r s0 s1 wp wi rp ri = not (storing ws && loading rs && same rp wp 
 
 -- Nor is it the one that slot[.] shows, of either pair.
 abbrev pub unshown : WriterStage → ReaderStage → Test
-unshown ws rs l r s0 s1 wp wi rp ri =
-    imp (storing ws) (both (not (same false wp && same s0 wi)) (not (same true wp && same s1 wi)))
+unshown ws rs l r s0 s1 wp wi rp ri = imp (storing ws) (not (same false wp && same s0 wi) && not (same true wp && same s1 wi))
 
--- All of it, where the invariant holds.
-abbrev lawful : WriterStage → ReaderStage → Test
+-- Where the invariant holds, it holds after each move, and so do the three facts.
+abbrev kept : WriterStage → ReaderStage → Test
 unfolding inv
-lawful ws rs l r s0 s1 wp wi rp ri =
+kept ws rs l r s0 s1 wp wi rp ri =
     imp (inv ws rs l r s0 s1 wp wi rp ri)
-    (both (writerKeeps ws rs l r s0 s1 wp wi rp ri)
-    (both (readerKeeps ws rs l r s0 s1 wp wi rp ri)
-    (both (safe ws rs l r s0 s1 wp wi rp ri)
-    (both (unmet ws rs l r s0 s1 wp wi rp ri)
-    (unshown ws rs l r s0 s1 wp wi rp ri)))))
+    (writerKeeps ws rs l r s0 s1 wp wi rp ri
+    && (readerKeeps ws rs l r s0 s1 wp wi rp ri
+    && (safe ws rs l r s0 s1 wp wi rp ri
+    && (unmet ws rs l r s0 s1 wp wi rp ri
+    && unshown ws rs l r s0 s1 wp wi rp ri))))
+
+-- A test at every stage of the writer, and of the reader.
+abbrev eachWriter : (WriterStage → Bool) → Bool
+eachWriter f = f w-idle && (f w-pair && (f w-index && f w-set))
+
+at-writer : (f : WriterStage → Bool) → T (eachWriter f) → (ws : WriterStage) → T (f ws)
+at-writer f t w-idle = and-left (f w-idle) _ t
+at-writer f t w-pair = and-left (f w-pair) _ (and-right (f w-idle) _ t)
+at-writer f t w-index = and-left (f w-index) _ (and-right (f w-pair) _ (and-right (f w-idle) _ t))
+at-writer f t w-set = and-right (f w-index) _ (and-right (f w-pair) _ (and-right (f w-idle) _ t))
+
+abbrev eachReader : (ReaderStage → Bool) → Bool
+eachReader f = f r-idle && (f r-pair && (f r-announced && f r-index))
+
+at-reader : (f : ReaderStage → Bool) → T (eachReader f) → (rs : ReaderStage) → T (f rs)
+at-reader f t r-idle = and-left (f r-idle) _ t
+at-reader f t r-pair = and-left (f r-pair) _ (and-right (f r-idle) _ t)
+at-reader f t r-announced = and-left (f r-announced) _ (and-right (f r-pair) _ (and-right (f r-idle) _ t))
+at-reader f t r-index = and-right (f r-announced) _ (and-right (f r-pair) _ (and-right (f r-idle) _ t))
 
 -- The computed test: 16 pairs of stages, each with 256 values of the bits.
-lawful-all : (ws : WriterStage) (rs : ReaderStage) → T (all8 (lawful ws rs))
+tested : T (eachWriter (λ ws. eachReader (λ rs. all8 (kept ws rs))))
 unfolding inv
-lawful-all w-idle r-idle = tt
-lawful-all w-idle r-pair = tt
-lawful-all w-idle r-announced = tt
-lawful-all w-idle r-index = tt
-lawful-all w-pair r-idle = tt
-lawful-all w-pair r-pair = tt
-lawful-all w-pair r-announced = tt
-lawful-all w-pair r-index = tt
-lawful-all w-index r-idle = tt
-lawful-all w-index r-pair = tt
-lawful-all w-index r-announced = tt
-lawful-all w-index r-index = tt
-lawful-all w-set r-idle = tt
-lawful-all w-set r-pair = tt
-lawful-all w-set r-announced = tt
-lawful-all w-set r-index = tt
+tested = tt
 
 module _ (ws : WriterStage) (rs : ReaderStage) (l r s0 s1 wp wi rp ri : Bool) (h : T (inv ws rs l r s0 s1 wp wi rp ri)) where
-  abbrev Kept : (WriterStage → ReaderStage → Test) → Bool
-  Kept g = g ws rs l r s0 s1 wp wi rp ri
+  abbrev here : (WriterStage → ReaderStage → Test) → Bool
+  here g = g ws rs l r s0 s1 wp wi rp ri
 
-  all : T (both (Kept writerKeeps) (both (Kept readerKeeps) (both (Kept safe) (both (Kept unmet) (Kept unshown)))))
+  all : T (here writerKeeps && (here readerKeeps && (here safe && (here unmet && here unshown))))
   unfolding inv
-  all = imp-use (inv ws rs l r s0 s1 wp wi rp ri) _ (at8 (lawful ws rs) (lawful-all ws rs) l r s0 s1 wp wi rp ri) h
+  all =
+      let at-stages = at-reader (λ rs. all8 (kept ws rs)) (at-writer (λ ws. eachReader (λ rs. all8 (kept ws rs))) tested ws) rs in
+      imp-use (inv ws rs l r s0 s1 wp wi rp ri) _ (at8 (kept ws rs) at-stages l r s0 s1 wp wi rp ri) h
 
-  after-writer : T (both (Kept readerKeeps) (both (Kept safe) (both (Kept unmet) (Kept unshown))))
-  after-writer = both-right (Kept writerKeeps) _ all
+  facts : T (here safe && (here unmet && here unshown))
+  facts = and-right (here readerKeeps) _ (and-right (here writerKeeps) _ all)
 
-  after-reader : T (both (Kept safe) (both (Kept unmet) (Kept unshown)))
-  after-reader = both-right (Kept readerKeeps) _ after-writer
+  pub writer-keeps : T (here writerKeeps)
+  writer-keeps = and-left (here writerKeeps) _ all
 
-  pub writer-keeps : T (Kept writerKeeps)
-  writer-keeps = both-left (Kept writerKeeps) _ all
+  pub reader-keeps : T (here readerKeeps)
+  reader-keeps = and-left (here readerKeeps) _ (and-right (here writerKeeps) _ all)
 
-  pub reader-keeps : T (Kept readerKeeps)
-  reader-keeps = both-left (Kept readerKeeps) _ after-writer
+  pub set-safe : T (here safe)
+  set-safe = and-left (here safe) _ facts
 
-  pub set-safe : T (Kept safe)
-  set-safe = both-left (Kept safe) _ after-reader
+  pub never-met : T (here unmet)
+  never-met = and-left (here unmet) _ (and-right (here safe) _ facts)
 
-  pub never-met : T (Kept unmet)
-  never-met = both-left (Kept unmet) _ (both-right (Kept safe) _ after-reader)
-
-  pub not-shown : T (Kept unshown)
-  not-shown = both-right (Kept unmet) _ (both-right (Kept safe) _ after-reader)
+  pub not-shown : T (here unshown)
+  not-shown = and-right (here unmet) _ (and-right (here safe) _ facts)
 
 -- It holds at the start.
 pub at-start : T (inv w-idle r-idle false false false false false false false false)

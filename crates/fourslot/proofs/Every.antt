@@ -1,19 +1,15 @@
 -- A claim on bits is shown at all of them by one test that is computed.
 -- Assumes nothing.
-use mathlib.Core.Bool.{Bool, true, false}
+use mathlib.Core.Bool.{Bool, true, false, _&&_}
 use lib.Dec.{T}
 
-abbrev pub both : Bool → Bool → Bool
-both true b = b
-both false b = false
+pub and-left : (a b : Bool) → T (a && b) → T a
+and-left true b t = tt
+and-left false b t = t
 
-pub both-left : (a b : Bool) → T (both a b) → T a
-both-left true b t = tt
-both-left false b t = t
-
-pub both-right : (a b : Bool) → T (both a b) → T b
-both-right true b t = t
-both-right false b t = absurd t
+pub and-right : (a b : Bool) → T (a && b) → T b
+and-right true b t = t
+and-right false b t = absurd t
 
 abbrev pub imp : Bool → Bool → Bool
 imp true b = b
@@ -24,11 +20,11 @@ imp-use true b h t = h
 imp-use false b h t = absurd t
 
 abbrev all1 : (Bool → Bool) → Bool
-all1 f = both (f false) (f true)
+all1 f = f false && f true
 
 at1 : (f : Bool → Bool) → T (all1 f) → (a : Bool) → T (f a)
-at1 f t false = both-left (f false) (f true) t
-at1 f t true = both-right (f false) (f true) t
+at1 f t false = and-left (f false) (f true) t
+at1 f t true = and-right (f false) (f true) t
 
 abbrev all2 : (Bool → Bool → Bool) → Bool
 all2 f = all1 (λ a. all1 (f a))

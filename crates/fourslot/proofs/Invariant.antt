@@ -2,7 +2,7 @@
 -- set it; the slot of a read that has its index bears the number that it took, and so do the words loaded so far. A word is the word of the
 -- item whose number it bears.
 -- Assumes nothing.
-use Prim.Native.Nat.{ℕ, suc, _+_, _-_, _≤_, _<_}
+use Prim.Native.Nat.{ℕ, suc, _+_, _≤_, _<_}
 use native.Mathlib.Omega.{arith}
 use native.Mathlib.Decide.{ℕ-discrete}
 use mathlib.Core.Path.{_≡_, sym, _∙_}
@@ -18,10 +18,10 @@ use Rattle.machine.specs.declared.State.{State}
 use Rattle.machine.specs.Machine.{firstWords, slotWord, withWriter, withReader}
 use Rattle.machine.proofs.Slots.{slots-apart, slots-within}
 use Rattle.fourslot.specs.Tags.{Tags}
-use Rattle.fourslot.proofs.Every.{both, imp, both-left, both-right}
+use Rattle.fourslot.proofs.Every.{imp, and-left, and-right}
 use Rattle.fourslot.proofs.Control.{WriterStage, w-idle, w-pair, w-index, w-set, ReaderStage, r-idle, r-pair, r-announced, r-index, writing, storing, committed, opening, loading, set-safe, never-met, not-shown}
 use Rattle.fourslot.proofs.Numbers.{Ghost, Numbers, put, afterSet, afterReturn, afterCall, afterTake, call-write, set-slot, return-write, call-read, take-number, return-read}
-use Rattle.fourslot.proofs.Moves.{paired, indexed, wordStored, slotSet, latestSet, latestTaken, announced, pointed, wordLoaded, readDone}
+use Rattle.fourslot.proofs.Moves.{paired, indexed, wordStored, slotSet, latestSet, latestTaken, pairAnnounced, pointed, wordLoaded, readDone}
 use Rattle.fourslot.proofs.Stages.{At, at-pair, at-index, at-store, at-slot, at-latest, at-take, at-announce, at-point, at-load, at-done}
 use Rattle.fourslot.proofs.Words.{wordOf, other-slot, this-word, other-word, one-more, first-same}
 
@@ -30,35 +30,37 @@ abbrev Bears : ℕ → List ℕ → Bool → Bool → ℕ → Type 0
 Bears n tags p i w = (k : ℕ) → k < n → wordOf tags p i k ≡ w
 
 -- The slots: those that slot[.] shows, and the words of all four; s0 and s1 are slot[0] and slot[1].
-pub record Slots (itemOf : ℕ → List ℕ) (n : ℕ) (s0 s1 : Bool) (slots tags : List ℕ) (shows : Bool → ℕ) : Type 0 where
+pub record Slots (byNumber : ℕ → List ℕ) (n : ℕ) (s0 s1 : Bool) (slots tags : List ℕ) (shows : Bool → ℕ) : Type 0 where
   pub long : length slots ≡ 32
   pub tagged : length tags ≡ 32
   pub bears : (p : Bool) → Bears n tags p (cond p s1 s0) (shows p)
-  pub words : (p i : Bool) (k : ℕ) → k < n → wordOf slots p i k ≡ getD (itemOf (wordOf tags p i k)) k 0
+  pub words : (p i : Bool) (k : ℕ) → k < n → wordOf slots p i k ≡ getD (byNumber (wordOf tags p i k)) k 0
 
 -- The open write: its item, and its words stored so far.
-pub record Stored (itemOf : ℕ → List ℕ) (n : ℕ) (isWriting isStoring : Bool) (taken tags : List ℕ) (core : Core) (called : ℕ) : Type 0 where
-  pub item : T isWriting → taken ≡ itemOf called
+pub record Stored (byNumber : ℕ → List ℕ) (n : ℕ) (isWriting isStoring : Bool) (taken tags : List ℕ) (core : Core) (called : ℕ)
+    : Type 0 where
+  pub item : T isWriting → taken ≡ byNumber called
   pub bears : T isStoring → (k : ℕ) → k < n → k + 2 < core .phase → wordOf tags (core .pair) (core .index) k ≡ called
 
 -- The open read: the slot that it loads from, and its words loaded so far.
-pub record Loaded (itemOf : ℕ → List ℕ) (n : ℕ) (isLoading : Bool) (loaded tags slotTags : List ℕ) (core : Core) (number : ℕ) : Type 0 where
+pub record Loaded (byNumber : ℕ → List ℕ) (n : ℕ) (isLoading : Bool) (loaded tags slotTags : List ℕ) (core : Core) (number : ℕ)
+    : Type 0 where
   pub long : length loaded ≡ 8
   pub tagged : length tags ≡ 8
   pub bears : T isLoading → Bears n slotTags (core .pair) (core .index) number
   pub so-far : T isLoading → (k : ℕ) → k < n → k + 3 < core .phase
-      → (getD tags k 0 ≡ number) × (getD loaded k 0 ≡ getD (itemOf number) k 0)
+      → (getD tags k 0 ≡ number) × (getD loaded k 0 ≡ getD (byNumber number) k 0)
 
-pub record Inv (itemOf : ℕ → List ℕ) (ws : WriterStage) (rs : ReaderStage) (s : State) (t : Tags) (g : Ghost) : Type 0 where
+pub record Inv (byNumber : ℕ → List ℕ) (ws : WriterStage) (rs : ReaderStage) (s : State) (t : Tags) (g : Ghost) : Type 0 where
   pub at : At ws rs (s .control)
   pub numbers : Numbers (writing ws) (committed ws) (opening rs) (loading rs) (s .control .bits .latest) (s .control .writer .pair)
       (s .control .reader .pair)
       (t .called)
       g
-  pub slots : Slots itemOf (s .control .n) (s .control .bits .slot0) (s .control .bits .slot1) (s .slots) (t .slots) (g .shows)
-  pub stored : Stored itemOf (s .control .n) (writing ws) (storing ws) (s .taken) (t .slots) (s .control .writer) (t .called)
-  pub loaded : Loaded itemOf (s .control .n) (loading rs) (s .loaded) (t .loaded) (t .slots) (s .control .reader) (g .taken)
-  pub items : (w : ℕ) → w ≤ t .called → (x : List ℕ) × (itemOf w ≡ firstWords (s .control .n) x)
+  pub slots : Slots byNumber (s .control .n) (s .control .bits .slot0) (s .control .bits .slot1) (s .slots) (t .slots) (g .shows)
+  pub stored : Stored byNumber (s .control .n) (writing ws) (storing ws) (s .taken) (t .slots) (s .control .writer) (t .called)
+  pub loaded : Loaded byNumber (s .control .n) (loading rs) (s .loaded) (t .loaded) (t .slots) (s .control .reader) (g .taken)
+  pub items : (w : ℕ) → w ≤ t .called → (x : List ℕ) × (byNumber w ≡ firstWords (s .control .n) x)
 
 -- What is left of a test whose first part holds.
 given-and : (a x y : Bool) → T a → T (not (a && x && y)) → T (not (x && y))
@@ -69,10 +71,10 @@ given-imp : (a x y : Bool) → T a → T (imp (a && x) y) → T (imp x y)
 given-imp true x y h t = t
 given-imp false x y h t = absurd h
 
-of-either : (s0 s1 wp wi : Bool) → T (both (not (Bool·beq false wp && Bool·beq s0 wi)) (not (Bool·beq true wp && Bool·beq s1 wi)))
+of-either : (s0 s1 wp wi : Bool) → T (not (Bool·beq false wp && Bool·beq s0 wi) && not (Bool·beq true wp && Bool·beq s1 wi))
     → (p : Bool) → T (not (Bool·beq p wp && Bool·beq (cond p s1 s0) wi))
-of-either s0 s1 wp wi t false = both-left (not (Bool·beq false wp && Bool·beq s0 wi)) (not (Bool·beq true wp && Bool·beq s1 wi)) t
-of-either s0 s1 wp wi t true = both-right (not (Bool·beq false wp && Bool·beq s0 wi)) (not (Bool·beq true wp && Bool·beq s1 wi)) t
+of-either s0 s1 wp wi t false = and-left (not (Bool·beq false wp && Bool·beq s0 wi)) _ t
+of-either s0 s1 wp wi t true = and-right (not (Bool·beq false wp && Bool·beq s0 wi)) _ t
 
 -- What the pairs show after slot[pair] is set.
 set-bears : (n : ℕ) (tags : List ℕ) (shows : Bool → ℕ) (called : ℕ) (s0 s1 wi wp : Bool) → Bears n tags wp wi called
@@ -84,27 +86,27 @@ set-bears n tags shows called s0 s1 wi false new old true = old true
 set-bears n tags shows called s0 s1 wi false new old false = new
 
 -- The reader's words and their numbers, with word j loaded.
-abbrev readAt : State → ℕ → ℕ
-readAt s j = slotWord (s .control .reader .pair) (s .control .reader .index) j
+abbrev loadPlace : State → ℕ → ℕ
+loadPlace s j = slotWord (s .control .reader .pair) (s .control .reader .index) j
 
 abbrev pub moreWords : State → ℕ → List ℕ
-moreWords s j = set (s .loaded) j (getD (s .slots) (readAt s j) 0)
+moreWords s j = set (s .loaded) j (getD (s .slots) (loadPlace s j) 0)
 
 abbrev pub moreTags : State → Tags → ℕ → List ℕ
-moreTags s t j = set (t .loaded) j (getD (t .slots) (readAt s j) 0)
+moreTags s t j = set (t .loaded) j (getD (t .slots) (loadPlace s j) 0)
 
 abbrev pub withLoaded : Tags → List ℕ → Tags
 withLoaded t loaded = record { called = t .called; slots = t .slots; loaded = loaded }
 
-module _ (itemOf : ℕ → List ℕ) where
+module _ (byNumber : ℕ → List ℕ) where
   no-read : {n number : ℕ} {loaded tags slotTags : List ℕ} {core : Core} → length loaded ≡ 8 → length tags ≡ 8
-      → Loaded itemOf n false loaded tags slotTags core number
+      → Loaded byNumber n false loaded tags slotTags core number
   no-read e f = record { long = e; tagged = f; bears = λ f. absurd f; so-far = λ f. absurd f }
 
   module _ (rs : ReaderStage) (s : State) (t : Tags) (g : Ghost) where
     -- The writer takes an item in, and its pair.
-    pub inv-pair : (x : List ℕ) → itemOf (suc (t .called)) ≡ firstWords (s .control .n) x → Inv itemOf w-idle rs s t g
-        → Inv itemOf w-pair rs (withWriter s (paired (s .control)) (s .slots) (firstWords (s .control .n) x))
+    pub inv-pair : (x : List ℕ) → byNumber (suc (t .called)) ≡ firstWords (s .control .n) x → Inv byNumber w-idle rs s t g
+        → Inv byNumber w-pair rs (withWriter s (paired (s .control)) (s .slots) (firstWords (s .control .n) x))
         (record { called = suc (t .called); slots = t .slots; loaded = t .loaded })
         g
     inv-pair x e h =
@@ -117,12 +119,12 @@ module _ (itemOf : ℕ → List ℕ) where
           items = λ w l. pick w l (ℕ-discrete w (suc (t .called)));
         }
       where
-        pick : (w : ℕ) → w ≤ suc (t .called) → Dec (w ≡ suc (t .called)) → (y : List ℕ) × (itemOf w ≡ firstWords (s .control .n) y)
+        pick : (w : ℕ) → w ≤ suc (t .called) → Dec (w ≡ suc (t .called)) → (y : List ℕ) × (byNumber w ≡ firstWords (s .control .n) y)
         pick w l (yes p) = (x, rw p e)
         pick w l (no p) = h .items w (omega arith)
 
     -- It gets its index.
-    pub inv-index : Inv itemOf w-pair rs s t g → Inv itemOf w-index rs (withWriter s (indexed (s .control)) (s .slots) (s .taken)) t g
+    pub inv-index : Inv byNumber w-pair rs s t g → Inv byNumber w-index rs (withWriter s (indexed (s .control)) (s .slots) (s .taken)) t g
     inv-index h =
         record {
           at = at-index (h .at);
@@ -134,8 +136,8 @@ module _ (itemOf : ℕ → List ℕ) where
         }
 
     -- It stores a word.
-    pub inv-store : (k : ℕ) → s .control .writer .phase ≡ 2 + k → k < s .control .n → Inv itemOf w-index rs s t g
-        → Inv itemOf w-index rs
+    pub inv-store : (k : ℕ) → s .control .writer .phase ≡ 2 + k → k < s .control .n → Inv byNumber w-index rs s t g
+        → Inv byNumber w-index rs
         (withWriter s (wordStored (s .control))
         (set (s .slots) (slotWord (s .control .writer .pair) (s .control .writer .index) k) (getD (s .taken) k 0))
         (s .taken))
@@ -205,7 +207,7 @@ module _ (itemOf : ℕ → List ℕ) where
 
         word : (p i : Bool) (k : ℕ) → k < c .n → Dec (slotWord p i k ≡ slotWord wp wi j)
             → wordOf (set (s .slots) (slotWord wp wi j) (getD (s .taken) j 0)) p i k
-            ≡ getD (itemOf (wordOf (set (t .slots) (slotWord wp wi j) v) p i k)) k 0
+            ≡ getD (byNumber (wordOf (set (t .slots) (slotWord wp wi j) v) p i k)) k 0
         word p i k l (yes same) =
             let there = slots-within wp wi j (within j less) in
             let is : k ≡ j = slots-apart p wp i wi k j (within k l) (within j less) same .2 in
@@ -218,8 +220,8 @@ module _ (itemOf : ℕ → List ℕ) where
             rw (old, kept) (h .slots .words p i k l)
 
     -- It sets slot[pair].
-    pub inv-slot : s .control .writer .phase ≡ 2 + s .control .n → Inv itemOf w-index rs s t g
-        → Inv itemOf w-set rs (withWriter s (slotSet (s .control)) (s .slots) (s .taken)) t
+    pub inv-slot : s .control .writer .phase ≡ 2 + s .control .n → Inv byNumber w-index rs s t g
+        → Inv byNumber w-set rs (withWriter s (slotSet (s .control)) (s .slots) (s .taken)) t
         (afterSet (s .control .writer .pair) (t .called) g)
     inv-slot e h =
         record {
@@ -244,8 +246,8 @@ module _ (itemOf : ℕ → List ℕ) where
         }
 
     -- Its pair is the latest, and the write returns.
-    pub inv-latest : Inv itemOf w-set rs s t g
-        → Inv itemOf w-idle rs (withWriter s (latestSet (s .control)) (s .slots) (s .taken)) t (afterReturn g)
+    pub inv-latest : Inv byNumber w-set rs s t g
+        → Inv byNumber w-idle rs (withWriter s (latestSet (s .control)) (s .slots) (s .taken)) t (afterReturn g)
     inv-latest h =
         record {
           at = at-latest (h .at);
@@ -258,7 +260,8 @@ module _ (itemOf : ℕ → List ℕ) where
 
   module _ (ws : WriterStage) (s : State) (t : Tags) (g : Ghost) where
     -- The reader takes the latest pair.
-    pub inv-take : Inv itemOf ws r-idle s t g → Inv itemOf ws r-pair (withReader s (latestTaken (s .control)) (s .loaded)) t (afterCall g)
+    pub inv-take : Inv byNumber ws r-idle s t g
+        → Inv byNumber ws r-pair (withReader s (latestTaken (s .control)) (s .loaded)) t (afterCall g)
     inv-take h =
         record {
           at = at-take (h .at);
@@ -270,7 +273,8 @@ module _ (itemOf : ℕ → List ℕ) where
         }
 
     -- It announces it.
-    pub inv-announce : Inv itemOf ws r-pair s t g → Inv itemOf ws r-announced (withReader s (announced (s .control)) (s .loaded)) t g
+    pub inv-announce : Inv byNumber ws r-pair s t g
+        → Inv byNumber ws r-announced (withReader s (pairAnnounced (s .control)) (s .loaded)) t g
     inv-announce h =
         record {
           at = at-announce (h .at);
@@ -282,8 +286,8 @@ module _ (itemOf : ℕ → List ℕ) where
         }
 
     -- It gets its index, and so takes the number that its pair shows.
-    pub inv-point : Inv itemOf ws r-announced s t g
-        → Inv itemOf ws r-index (withReader s (pointed (s .control)) (s .loaded)) t (afterTake (s .control .reader .pair) g)
+    pub inv-point : Inv byNumber ws r-announced s t g
+        → Inv byNumber ws r-index (withReader s (pointed (s .control)) (s .loaded)) t (afterTake (s .control .reader .pair) g)
     inv-point h =
         record {
           at = at-point (s .control) (h .at);
@@ -300,12 +304,12 @@ module _ (itemOf : ℕ → List ℕ) where
           items = h .items;
         }
 
-    module _ (j : ℕ) (e : s .control .reader .phase ≡ 3 + j) (less : j < s .control .n) (h : Inv itemOf ws r-index s t g) where
-      load-more : (k : ℕ) → k < suc j → (getD (moreTags s t j) k 0 ≡ g .taken) × (getD (moreWords s j) k 0 ≡ getD (itemOf (g .taken)) k 0)
+    module _ (j : ℕ) (e : s .control .reader .phase ≡ 3 + j) (less : j < s .control .n) (h : Inv byNumber ws r-index s t g) where
+      load-more : (k : ℕ) → k < suc j → (getD (moreTags s t j) k 0 ≡ g .taken) × (getD (moreWords s j) k 0 ≡ getD (byNumber (g .taken)) k 0)
       load-more k l = pick (ℕ-discrete k j)
         where
           at : ℕ
-          at = readAt s j
+          at = loadPlace s j
 
           small : j < 8
           small = omega (arith, h .at .high)
@@ -313,7 +317,7 @@ module _ (itemOf : ℕ → List ℕ) where
           bears : getD (t .slots) at 0 ≡ g .taken
           bears = h .loaded .bears tt j less
 
-          pick : Dec (k ≡ j) → (getD (moreTags s t j) k 0 ≡ g .taken) × (getD (moreWords s j) k 0 ≡ getD (itemOf (g .taken)) k 0)
+          pick : Dec (k ≡ j) → (getD (moreTags s t j) k 0 ≡ g .taken) × (getD (moreWords s j) k 0 ≡ getD (byNumber (g .taken)) k 0)
           pick (yes is) =
               let word = h .slots .words (s .control .reader .pair) (s .control .reader .index) j less in
               rw is (
@@ -334,7 +338,7 @@ module _ (itemOf : ℕ → List ℕ) where
 
       -- It loads a word.
       pub inv-load : 1 + j < s .control .n
-          → Inv itemOf ws r-index (withReader s (wordLoaded (s .control)) (moreWords s j)) (withLoaded t (moreTags s t j)) g
+          → Inv byNumber ws r-index (withReader s (wordLoaded (s .control)) (moreWords s j)) (withLoaded t (moreTags s t j)) g
       inv-load more =
           record {
             at = at-load (s .control) (omega arith) (h .at);
@@ -347,7 +351,7 @@ module _ (itemOf : ℕ → List ℕ) where
           }
 
       -- It loads its last word, and the read returns.
-      pub inv-last : Inv itemOf ws r-idle (withReader s (readDone (s .control)) (moreWords s j)) (withLoaded t (moreTags s t j)) g
+      pub inv-last : Inv byNumber ws r-idle (withReader s (readDone (s .control)) (moreWords s j)) (withLoaded t (moreTags s t j)) g
       inv-last =
           record {
             at = at-done (h .at);
@@ -362,7 +366,7 @@ module _ (itemOf : ℕ → List ℕ) where
       pub last-tags : 1 + j ≡ s .control .n → (k : ℕ) → k < s .control .n → getD (moreTags s t j) k 0 ≡ g .taken
       last-tags all k l = load-more k (omega arith) .0
 
-      pub last-item : 1 + j ≡ s .control .n → itemOf (g .taken) ≡ firstWords (s .control .n) (moreWords s j)
+      pub last-item : 1 + j ≡ s .control .n → byNumber (g .taken) ≡ firstWords (s .control .n) (moreWords s j)
       last-item all =
           let known = h .items (g .taken) (omega (arith, h .numbers .order, h .numbers .most (s .control .bits .latest))) in
           let is = known .1 in

@@ -1,9 +1,9 @@
 -- The corollary over bytes: the judge accepts the log of an accepted run.
 -- Assumes nothing.
 use Prim.Native.Nat.{ℕ, _≤_}
-use mathlib.Core.Path.{_≡_, _∙_}
+use mathlib.Core.Path.{_≡_, sym, ap, _∙_}
 use mathlib.Core.List.{List}
-use lib.ListN.{length}
+use lib.ListN.{length, take}
 use Rattle.refusals.specs.declared.Answer.{Answer}
 use Rattle.refusals.specs.declared.Answer.the-variants.{Accepted}
 use Rattle.refusals.proofs.Apart.{apart}
@@ -41,9 +41,9 @@ judged log e room q (faulty f p g _ _) = apart cc
 judged log e room q (lawful end _ v) = verdict-placed room q v
 
 pub run-judged : RunJudged
-run-judged s out k log entries after answer bs accepted is room judges =
-    let told = run-is-accepted s out k accepted in
-    let same : log ≡ fourLog s = is ∙ told .first in
-    let kept = run-log-accepted s (told .es) bs (told .ran) in
-    let placed = log-placed s (told .es) bs (told .ran) in
-    judged log {qs = placed .0} (rw same (kept .accepted)) room (rw same (placed .1)) (judges .judgement)
+run-judged moves out filled entries after k answer bs (accepted, is) judges room =
+    let told = run-is-accepted moves out k (sym accepted) in
+    let same : take k filled ≡ fourLog moves = ap (take k) is ∙ told .first in
+    let kept = run-log-accepted moves (told .es) bs (told .ran) in
+    let placed = log-placed moves (told .es) bs (told .ran) in
+    judged (take k filled) {qs = placed .0} (rw same (kept .accepted)) room (rw same (placed .1)) (judges .judgement)

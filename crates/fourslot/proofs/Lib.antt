@@ -10,3 +10,4 @@ pub mod Placed
 pub mod Runs
 pub mod Theorem
 pub mod Judged
+pub mod Wrong

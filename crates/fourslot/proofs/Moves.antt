@@ -32,8 +32,8 @@ latestSet c = atPhase Writer 0 (does Writer (setLatest (λ b x. x .pair)) c)
 abbrev pub latestTaken : Control → Control
 latestTaken c = atPhase Reader 1 (does Reader (setPair (λ b x. b .latest)) c)
 
-abbrev pub announced : Control → Control
-announced c = atPhase Reader 2 (does Reader (setReading (λ b x. x .pair)) c)
+abbrev pub pairAnnounced : Control → Control
+pairAnnounced c = atPhase Reader 2 (does Reader (setReading (λ b x. x .pair)) c)
 
 abbrev pub pointed : Control → Control
 pointed c = atPhase Reader 3 (does Reader (setIndex (λ b x. slotAt b (x .pair))) c)
@@ -71,7 +71,7 @@ module _ (c : Control) (h : sound simpson c ≡ true) where
   pub take-move : c .reader .phase ≡ 0 → step simpson Reader c ≡ accepted Called Nothing (latestTaken c)
   take-move e = sym (step-first simpson Reader c h (reading-pair (c .n) (c .reader .phase) e) (read-length (c .n)) e (omega arith))
 
-  pub announce-move : c .reader .phase ≡ 1 → step simpson Reader c ≡ accepted NoEvent Nothing (announced c)
+  pub announce-move : c .reader .phase ≡ 1 → step simpson Reader c ≡ accepted NoEvent Nothing (pairAnnounced c)
   announce-move e =
       let action = reading-announce (c .n) (c .reader .phase) e in
       sym (step-between simpson Reader c h action (read-length (c .n)) 2 (omega arith) (omega arith) (omega arith))

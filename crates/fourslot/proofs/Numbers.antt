@@ -19,7 +19,6 @@ pub record Ghost : Type 0 where
 -- The numbers, `called` writes having been called. writing: a write is open; committed: and has set slot[pair]; opening: a read has its
 -- pair and not its index; loading: it has its index.
 pub record Numbers (writing committed opening loading latest wp rp : Bool) (called : ℕ) (g : Ghost) : Type 0 where
-  pub counted : g .returned ≤ called
   pub one-open : T writing → g .returned < called
   pub shown : g .returned ≤ g .shows latest
   pub most : (p : Bool) → g .shows p ≤ called
@@ -61,10 +60,9 @@ put-order f false false true v t m h = absurd t
 -- A write is called.
 pub call-write : {o k l wp wp′ rp : Bool} {called : ℕ} (g : Ghost) → Numbers false false o k l wp rp called g
     → Numbers true false o k l wp′ rp (suc called) g
-call-write g h =
+call-write {l = l} g h =
     record {
-      counted = omega (arith, h .counted);
-      one-open = λ _. omega (arith, h .counted);
+      one-open = λ _. omega (arith, h .shown, h .most l);
       shown = h .shown;
       most = λ p. omega (arith, h .most p);
       set = λ t. absurd t;
@@ -83,7 +81,6 @@ pub set-slot : (o k l wp rp : Bool) (called : ℕ) (g : Ghost) → (T o → T (i
     → Numbers true false o k l wp rp called g → Numbers true true o k l wp rp called (afterSet wp called g)
 set-slot o k l wp rp called g safe h =
     record {
-      counted = h .counted;
       one-open = h .one-open;
       shown = omega (arith, h .shown, up l);
       most = λ p. put-most (g .shows) wp p called (h .most p);
@@ -106,7 +103,6 @@ pub return-write : (o k l wp rp : Bool) (called : ℕ) (g : Ghost) → Numbers t
     → Numbers false false o k wp wp rp called (afterReturn g)
 return-write o k l wp rp called g h =
     record {
-      counted = omega (arith, h .one-open tt);
       one-open = λ t. absurd t;
       shown = omega (arith, h .one-open tt, h .set tt);
       most = h .most;
@@ -126,7 +122,6 @@ pub call-read : {w c l wp rp : Bool} {called : ℕ} (g : Ghost) → Numbers w c 
     → Numbers w c true false l wp l called (afterCall g)
 call-read g h =
     record {
-      counted = h .counted;
       one-open = h .one-open;
       shown = h .shown;
       most = h .most;
@@ -146,7 +141,6 @@ pub take-number : {w c l wp rp : Bool} {called : ℕ} (g : Ghost) → Numbers w 
     → Numbers w c false true l wp rp called (afterTake rp g)
 take-number g h =
     record {
-      counted = h .counted;
       one-open = h .one-open;
       shown = h .shown;
       most = h .most;
@@ -163,7 +157,6 @@ pub return-read : {w c l wp rp : Bool} {called : ℕ} (g : Ghost) → Numbers w 
     → Numbers w c false false l wp rp called g
 return-read g h =
     record {
-      counted = h .counted;
       one-open = h .one-open;
       shown = h .shown;
       most = h .most;

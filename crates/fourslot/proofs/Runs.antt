@@ -12,16 +12,18 @@ use lib.ListN.{getD, drop, replicate}
 use lib.Seq.{getD-drop, drop-drop}
 use lib.Dec.{eqb}
 use borrow.Table.Steps.{cases}
+use Rattle.control.specs.declared.Happened.{Happened}
+use Rattle.control.specs.declared.Happened.the-variants.{NoEvent, Called, Returned}
 use Rattle.control.specs.declared.Step.{Step}
 use Rattle.control.specs.Simpson.{Writer, Reader, simpson}
 use Rattle.control.specs.Step.{step}
 use Rattle.machine.specs.declared.State.{State}
 use Rattle.machine.specs.Machine.{writerAfter, readerAfter, writerMove, readerMove}
 use Rattle.history.specs.declared.Kind.the-variants.{WriteCalled, WriteReturned, ReadCalled, ReadReturned}
-use Rattle.history.specs.Event.{Event, kindOf}
+use Rattle.history.specs.Event.{Event, event, kindOf}
 use Rattle.history.specs.Reads.{written, readsAfter}
-use Rattle.runs.specs.Run.{Bench, Ran, before, run, ofWriter, ofReader, writes, reads, fourSlots}
-use Rattle.runs.proofs.Runs.{Deal, Took, Skipped, run-all}
+use Rattle.runs.specs.Run.{Ran, run, ofWriter, ofReader, writes, reads, fourSlots}
+use Rattle.runs.proofs.Runs.{Deal, Took, Skipped, run-all, run-on}
 use Rattle.fourslot.specs.Tags.{Tags, Tagged, tagStore, tagLoad, withTags}
 use Rattle.fourslot.proofs.Control.{WriterStage, w-idle, w-pair, w-index, w-set, ReaderStage, r-idle, r-pair, r-announced, r-index}
 use Rattle.fourslot.proofs.Numbers.{Ghost}
@@ -30,22 +32,25 @@ use Rattle.fourslot.proofs.Stages.{at-sound}
 use Rattle.fourslot.proofs.Placed.{Placed, Borne}
 use Rattle.fourslot.proofs.Invariant.{Inv, inv-pair, inv-index, inv-store, inv-slot, inv-latest, inv-take, inv-announce, inv-point, inv-load, inv-last, last-tags, last-item}
 
--- A move that was dealt with, and those after it.
-run-on : {S : Type 0} (b : Bench S) (s : S) (k : ℕ) (items : List (List ℕ)) (code : ℕ) (codes : List ℕ) (x : List ℕ)
-    (left : List (List ℕ)) → Deal b s code items x left
-    → run b s k items (code ∷ codes) ≡ before (b .move s code x .events) (run b (b .move s code x .state) (suc k) left codes)
-unfolding run
-run-on b s k items code codes x left (Took t l) = rw (t, l)
-run-on b s k items code codes x left (Skipped t z l) = rw (t, l, z)
-
--- The machine's deal is also the tagged machine's.
-with-tags : (s : State) (t : Tags) (code : ℕ) (items : List (List ℕ)) (x : List ℕ) (left : List (List ℕ))
-    → Deal (fourSlots simpson) s code items x left → Deal (withTags simpson) (record { state = s; tags = t }) code items x left
-with-tags s t code items x left (Took h l) = Took h l
-with-tags s t code items x left (Skipped h z l) = Skipped h z l
-
 abbrev beside : State → Tags → Tagged
 beside s t = record { state = s; tags = t }
+
+-- The machine's deal is also the tagged machine's.
+deal-beside : (s : State) (t : Tags) (code : ℕ) (items : List (List ℕ)) (x : List ℕ) (left : List (List ℕ))
+    → Deal (fourSlots simpson) s code items x left → Deal (withTags simpson) (beside s t) code items x left
+deal-beside s t code items x left (Took h l) = Took h l
+deal-beside s t code items x left (Skipped h z l) = Skipped h z l
+
+-- A move's events, with other words.
+write-words : (h : Happened) (x y : List ℕ) → map (λ e. event (kindOf e) y) (ofWriter h x) ≡ ofWriter h y
+write-words NoEvent x y = refl
+write-words Called x y = refl
+write-words Returned x y = refl
+
+read-words : (h : Happened) (x y : List ℕ) → map (λ e. event (kindOf e) y) (ofReader h x) ≡ ofReader h y
+read-words NoEvent x y = refl
+read-words Called x y = refl
+read-words Returned x y = refl
 
 -- The first of what is left of a list.
 drop-first : (m : ℕ) (all : List (List ℕ)) (x : List ℕ) (xs : List (List ℕ)) → drop m all ≡ x ∷ xs
@@ -57,8 +62,8 @@ drop-first m all x xs e = (
 
 -- `all` has the item of each number of the whole run.
 module _ (all : List (List ℕ)) where
-  abbrev itemOf : ℕ → List ℕ
-  itemOf w = getD all w []
+  abbrev byNumber : ℕ → List ℕ
+  byNumber w = getD all w []
 
   -- What holds of the moves to come.
   pub record Result (s : State) (t : Tags) (g : Ghost) (k calls last : ℕ) (items : List (List ℕ)) (codes : List ℕ) (es : List Event)
@@ -73,7 +78,7 @@ module _ (all : List (List ℕ)) where
   -- From any state of which the invariant holds, the last read before having had a number that is not greater than what was taken.
   abbrev Claim : State → List (List ℕ) → List ℕ → List Event → Type 0
   Claim s items codes es =
-      (ws : WriterStage) (rs : ReaderStage) (t : Tags) (g : Ghost) (k calls last : ℕ) → Inv itemOf ws rs s t g
+      (ws : WriterStage) (rs : ReaderStage) (t : Tags) (g : Ghost) (k calls last : ℕ) → Inv byNumber ws rs s t g
       → drop (suc (t .called)) all ≡ written es → last ≤ g .taken → Result s t g k calls last items codes es
 
   module _ (s : State) (items : List (List ℕ)) (code : ℕ) (x : List ℕ) (left : List (List ℕ)) (codes : List ℕ) (es : List Event)
@@ -83,11 +88,13 @@ module _ (all : List (List ℕ)) where
         → run (withTags simpson) (beside (writerAfter st s x .state) (tagStore st t)) (suc k) left codes ≡ Ran fs
         → run (withTags simpson) (beside s t) k items (code ∷ codes)
         ≡ Ran (ofWriter (st .happened) (replicate 8 (tagStore st t .called)) ++ fs)
+    unfolding writerAfter
     tagged-write st t k fs e q r =
-        run-on (withTags simpson) (beside s t) k items code codes x left (with-tags s t code items x left d) ∙ rw (e, q, r)
+        run-on (withTags simpson) (beside s t) items code codes x left k (deal-beside s t code items x left d)
+        ∙ rw (e, q, r, write-words (st .happened) (writerAfter st s x .item) (replicate 8 (tagStore st t .called)))
 
     write-claim : (ws : WriterStage) (rs : ReaderStage) (t : Tags) (g : Ghost) (k calls last : ℕ) → eqb code 0 ≡ true
-        → Inv itemOf ws rs s t g
+        → Inv byNumber ws rs s t g
         → Claim (writerMove simpson s x .state) left codes es
         → drop (suc (t .called)) all ≡ written (writes (writerMove simpson s x) .events ++ es) → last ≤ g .taken
         → Result s t g k calls last items (code ∷ codes) (writes (writerMove simpson s x) .events ++ es)
@@ -96,7 +103,7 @@ module _ (all : List (List ℕ)) where
         let q = pair-move (s .control) (at-sound (h .at)) (h .at .writer) in
         rw q λ ih future le.
         let next = drop-first (suc (t .called)) all _ (written es) future in
-        let r = ih w-pair rs _ g (suc k) calls last (inv-pair itemOf rs s t g x (next .0) h) (next .1) le in
+        let r = ih w-pair rs _ g (suc k) calls last (inv-pair byNumber rs s t g x (next .0) h) (next .1) le in
         record {
           tags = _;
           tagged = tagged-write _ t k _ e q (r .tagged);
@@ -108,7 +115,7 @@ module _ (all : List (List ℕ)) where
     write-claim w-pair rs t g k calls last e h =
         let q = index-move (s .control) (at-sound (h .at)) (h .at .writer) in
         rw q λ ih future le.
-        let r = ih w-index rs _ g (suc k) calls last (inv-index itemOf rs s t g h) future le in
+        let r = ih w-index rs _ g (suc k) calls last (inv-index byNumber rs s t g h) future le in
         record {
           tags = _;
           tagged = tagged-write _ t k _ e q (r .tagged);
@@ -129,7 +136,7 @@ module _ (all : List (List ℕ)) where
             let less : j < s .control .n = omega arith in
             let q = store-move (s .control) (at-sound (h .at)) j is less in
             rw q λ ih future le.
-            let r = ih w-index rs _ g (suc k) calls last (inv-store itemOf rs s t g j is less h) future le in
+            let r = ih w-index rs _ g (suc k) calls last (inv-store byNumber rs s t g j is less h) future le in
             record {
               tags = _;
               tagged = tagged-write _ t k _ e q (r .tagged);
@@ -142,7 +149,7 @@ module _ (all : List (List ℕ)) where
             let is : s .control .writer .phase ≡ 2 + s .control .n = omega (arith, h .at .writer .1) in
             let q = slot-move (s .control) (at-sound (h .at)) is in
             rw q λ ih future le.
-            let r = ih w-set rs _ _ (suc k) calls last (inv-slot itemOf rs s t g is h) future le in
+            let r = ih w-set rs _ _ (suc k) calls last (inv-slot byNumber rs s t g is h) future le in
             record {
               tags = _;
               tagged = tagged-write _ t k _ e q (r .tagged);
@@ -154,7 +161,7 @@ module _ (all : List (List ℕ)) where
     write-claim w-set rs t g k calls last e h =
         let q = latest-move (s .control) (at-sound (h .at)) (h .at .writer) in
         rw q λ ih future le.
-        let r = ih w-idle rs _ _ (suc k) calls last (inv-latest itemOf rs s t g h) future le in
+        let r = ih w-idle rs _ _ (suc k) calls last (inv-latest byNumber rs s t g h) future le in
         record {
           tags = _;
           tagged = tagged-write _ t k _ e q (r .tagged);
@@ -168,11 +175,13 @@ module _ (all : List (List ℕ)) where
     tagged-read : (st : Step) (t : Tags) (k : ℕ) (fs : List Event) → eqb code 0 ≡ false → step simpson Reader (s .control) ≡ st
         → run (withTags simpson) (beside (readerAfter st s .state) (tagLoad st t)) (suc k) left codes ≡ Ran fs
         → run (withTags simpson) (beside s t) k items (code ∷ codes) ≡ Ran (ofReader (st .happened) (tagLoad st t .loaded) ++ fs)
+    unfolding readerAfter
     tagged-read st t k fs e q r =
-        run-on (withTags simpson) (beside s t) k items code codes x left (with-tags s t code items x left d) ∙ rw (e, q, r)
+        run-on (withTags simpson) (beside s t) items code codes x left k (deal-beside s t code items x left d)
+        ∙ rw (e, q, r, read-words (st .happened) (readerAfter st s .item) (tagLoad st t .loaded))
 
     read-claim : (ws : WriterStage) (rs : ReaderStage) (t : Tags) (g : Ghost) (k calls last : ℕ) → eqb code 0 ≡ false
-        → Inv itemOf ws rs s t g
+        → Inv byNumber ws rs s t g
         → Claim (readerMove simpson s .state) left codes es
         → drop (suc (t .called)) all ≡ written (reads (readerMove simpson s) .events ++ es) → last ≤ g .taken
         → Result s t g k calls last items (code ∷ codes) (reads (readerMove simpson s) .events ++ es)
@@ -180,7 +189,7 @@ module _ (all : List (List ℕ)) where
     read-claim ws r-idle t g k calls last e h =
         let q = take-move (s .control) (at-sound (h .at)) (h .at .reader) in
         rw q λ ih future le.
-        let r = ih ws r-pair _ _ (suc k) (suc calls) last (inv-take itemOf ws s t g h) future le in
+        let r = ih ws r-pair _ _ (suc k) (suc calls) last (inv-take byNumber ws s t g h) future le in
         record {
           tags = _;
           tagged = tagged-read _ t k _ e q (r .tagged);
@@ -192,7 +201,7 @@ module _ (all : List (List ℕ)) where
     read-claim ws r-pair t g k calls last e h =
         let q = announce-move (s .control) (at-sound (h .at)) (h .at .reader) in
         rw q λ ih future le.
-        let r = ih ws r-announced _ g (suc k) calls last (inv-announce itemOf ws s t g h) future le in
+        let r = ih ws r-announced _ g (suc k) calls last (inv-announce byNumber ws s t g h) future le in
         record {
           tags = _;
           tagged = tagged-read _ t k _ e q (r .tagged);
@@ -204,7 +213,7 @@ module _ (all : List (List ℕ)) where
     read-claim ws r-announced t g k calls last e h =
         let q = point-move (s .control) (at-sound (h .at)) (h .at .reader) (h .at .low) in
         rw q λ ih future le.
-        let r = ih ws r-index _ _ (suc k) calls last (inv-point itemOf ws s t g h) future (omega (arith, h .numbers .not-older tt)) in
+        let r = ih ws r-index _ _ (suc k) calls last (inv-point byNumber ws s t g h) future (omega (arith, h .numbers .not-older tt)) in
         record {
           tags = _;
           tagged = tagged-read _ t k _ e q (r .tagged);
@@ -231,7 +240,7 @@ module _ (all : List (List ℕ)) where
         at-word (yes l) =
             let q = load-move (s .control) (at-sound (h .at)) j is (omega arith) in
             rw q λ ih future le.
-            let r = ih ws r-index _ g (suc k) calls last (inv-load itemOf ws s t g j is less h (omega arith)) future le in
+            let r = ih ws r-index _ g (suc k) calls last (inv-load byNumber ws s t g j is less h (omega arith)) future le in
             record {
               tags = _;
               tagged = tagged-read _ t k _ e q (r .tagged);
@@ -244,18 +253,18 @@ module _ (all : List (List ℕ)) where
             let full : 1 + j ≡ s .control .n = omega (arith, h .at .reader .1) in
             let q = last-move (s .control) (at-sound (h .at)) j is full in
             rw q λ ih future le.
-            let r = ih ws r-idle _ g (suc k) calls (g .taken) (inv-last itemOf ws s t g j is less h) future (le-refl _) in
+            let r = ih ws r-idle _ g (suc k) calls (g .taken) (inv-last byNumber ws s t g j is less h) future (le-refl _) in
             record {
               tags = _;
               tagged = tagged-read _ t k _ e q (r .tagged);
               kinds = ap (_∷_ ReadReturned) (r .kinds);
               numbers = g .taken ∷ r .numbers;
-              borne = (last-tags itemOf ws s t g j is less h full, r .borne);
+              borne = (last-tags byNumber ws s t g j is less h full, r .borne);
               placed = (
                 record {
                   at-least-low = h .numbers .held tt;
                   at-most-high = omega (arith, h .numbers .order, h .numbers .most (s .control .bits .latest));
-                  same-item = last-item itemOf ws s t g j is less h full;
+                  same-item = last-item byNumber ws s t g j is less h full;
                 },
                 le,
                 r .placed,
@@ -267,11 +276,11 @@ module _ (all : List (List ℕ)) where
   no-moves s items ws rs t g k calls last h future le =
       record { tags = []; tagged = refl; kinds = refl; numbers = []; borne = tt; placed = tt }
 
-  one-more : (s : State) (items : List (List ℕ)) (code : ℕ) (x : List ℕ) (left : List (List ℕ))
+  move-claim : (s : State) (items : List (List ℕ)) (code : ℕ) (x : List ℕ) (left : List (List ℕ))
       → Deal (fourSlots simpson) s code items x left → (codes : List ℕ) (es : List Event)
       → Claim (fourSlots simpson .move s code x .state) left codes es
       → Claim s items (code ∷ codes) (fourSlots simpson .move s code x .events ++ es)
-  one-more s items code x left d codes es =
+  move-claim s items code x left d codes es =
       cases (eqb code 0)
       (λ e. rw e λ ih ws rs t g k calls last h. write-claim s items code x left codes es d ws rs t g k calls last e h ih)
       (λ e. rw e λ ih ws rs t g k calls last h. read-claim s items code x left codes es d ws rs t g k calls last e h ih)
@@ -281,7 +290,7 @@ module _ (all : List (List ℕ)) where
       → run (fourSlots simpson) s k items codes ≡ Ran es → Claim s items codes es
   run-claim s k items codes es =
       run-all (fourSlots simpson) (λ s items. Unit {0}) Claim (λ s items u. no-moves s items)
-      (λ s items code x left u d. (tt, λ codes es ih. one-more s items code x left d codes es ih))
+      (λ s items code x left u d. (tt, λ codes es ih. move-claim s items code x left d codes es ih))
       s
       k
       items

@@ -11,7 +11,7 @@ use Rattle.control.specs.Step.{sound}
 use Rattle.control.proofs.Sound.{sound-yes}
 use Rattle.fourslot.proofs.Every.{Test}
 use Rattle.fourslot.proofs.Control.{WriterStage, w-idle, w-pair, w-index, w-set, ReaderStage, r-idle, r-pair, r-announced, r-index, inv, writerKeeps, readerKeeps, writer-keeps, reader-keeps}
-use Rattle.fourslot.proofs.Moves.{paired, indexed, wordStored, slotSet, latestSet, latestTaken, announced, pointed, wordLoaded, readDone}
+use Rattle.fourslot.proofs.Moves.{paired, indexed, wordStored, slotSet, latestSet, latestTaken, pairAnnounced, pointed, wordLoaded, readDone}
 
 -- The phases of each stage of a call.
 abbrev pub WriterAt : ℕ → WriterStage → ℕ → Type 0
@@ -95,7 +95,7 @@ at-latest a = record { low = a .low; high = a .high; writer = refl; reader = a .
 pub at-take : {ws : WriterStage} {c : Control} → At ws r-idle c → At ws r-pair (latestTaken c)
 at-take a = record { low = a .low; high = a .high; writer = a .writer; reader = refl; test = reader-next a }
 
-pub at-announce : {ws : WriterStage} {c : Control} → At ws r-pair c → At ws r-announced (announced c)
+pub at-announce : {ws : WriterStage} {c : Control} → At ws r-pair c → At ws r-announced (pairAnnounced c)
 at-announce a = record { low = a .low; high = a .high; writer = a .writer; reader = refl; test = reader-next a }
 
 pub at-point : {ws : WriterStage} (c : Control) → At ws r-announced c → At ws r-index (pointed c)

@@ -16,7 +16,7 @@ use Rattle.history.specs.Event.{Event}
 use Rattle.history.specs.Reads.{written, readsOf}
 use Rattle.history.proofs.Counts.{high-written}
 use Rattle.fourslot.specs.Tags.{untouched, TrueNumbers}
-use Rattle.fourslot.specs.Theorem.{itemsOf, EveryRunPlaced, EveryReadWhole, EarliestAtMostTrue}
+use Rattle.fourslot.specs.Theorem.{writesOf, EveryRunPlaced, EveryReadWhole, EarliestAtMostTrue}
 use Rattle.fourslot.proofs.Control.{w-idle, r-idle, at-start}
 use Rattle.fourslot.proofs.Numbers.{Ghost}
 use Rattle.fourslot.proofs.Words.{wordOf}
@@ -30,8 +30,8 @@ zeros = record { returned = 0; low = 0; taken = 0; shows = λ p. 0 }
 
 -- The invariant holds at the start.
 module _ (n : ℕ) (low : 1 ≤ n) (high : n ≤ 8) (initial : List ℕ) (more : List (List ℕ)) where
-  abbrev itemOf : ℕ → List ℕ
-  itemOf w = getD (firstWords n initial ∷ more) w []
+  abbrev byNumber : ℕ → List ℕ
+  byNumber w = getD (firstWords n initial ∷ more) w []
 
   long : length (firstWords n initial) ≡ 8
   long = length-sets (replicate 8 0) 0 (take n initial)
@@ -39,13 +39,12 @@ module _ (n : ℕ) (low : 1 ≤ n) (high : n ≤ 8) (initial : List ℕ) (more :
   no-tag : (p i : Bool) (k : ℕ) → k < 8 → wordOf (replicate 32 0) p i k ≡ 0
   no-tag p i k h = getD-replicate 32 (slotWord p i k) 0 0 (slots-within p i k h)
 
-  start-inv : Inv itemOf w-idle r-idle (idleState n (inAllFour (firstWords n initial))) untouched zeros
+  start-inv : Inv byNumber w-idle r-idle (idleState n (inAllFour (firstWords n initial))) untouched zeros
   start-inv =
       record {
         at = record { low = low; high = high; writer = refl; reader = refl; test = at-start };
         numbers =
             record {
-              counted = le-refl _;
               one-open = λ f. absurd f;
               shown = le-refl _;
               most = λ p. le-refl _;
@@ -68,7 +67,7 @@ module _ (n : ℕ) (low : 1 ≤ n) (high : n ≤ 8) (initial : List ℕ) (more :
         items = λ w l. zero-only w l;
       }
     where
-      zero-only : (w : ℕ) → w ≤ 0 → (x : List ℕ) × (itemOf w ≡ firstWords n x)
+      zero-only : (w : ℕ) → w ≤ 0 → (x : List ℕ) × (byNumber w ≡ firstWords n x)
       zero-only w l =
           let is : w ≡ 0 = omega arith in
           (initial, rw is)
@@ -77,7 +76,7 @@ pub every-run-placed : EveryRunPlaced
 every-run-placed n initial items codes es w ran =
     let h = between-true 1 8 n w in
     let from = fresh-width n initial (h .0) (h .1) in
-    let all = itemsOf n initial es in
+    let all = writesOf n initial es in
     let r =
     run-claim all (idleState n (inAllFour (firstWords n initial))) 0 items codes es (rw from at ran) w-idle r-idle untouched zeros 0 0 0
     (start-inv n (h .0) (h .1) initial (written es))
@@ -110,7 +109,7 @@ true-unique {ps = ps} {qs = qs} h e p q =
     ext-getD 0 ps qs same (λ j l. sym (p .common j 0 l h) ∙ rw e (q .common j 0 (omega arith) h))
 
 pub earliest-at-most-true : EarliestAtMostTrue
-earliest-at-most-true n initial items codes es tags numbers ps w ran tagged borne earliest j l =
+earliest-at-most-true n initial items codes es tags numbers entries w ran tagged borne earliest j l =
     let t = every-run-placed n initial items codes es w ran in
     let first = t .tagged in
     let same : t .tags ≡ tags = cc in

@@ -1,2 +1,3 @@
 pub mod Tags
 pub mod Theorem
+pub mod Wrong

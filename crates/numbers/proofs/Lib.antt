@@ -3,5 +3,4 @@ pub mod Bounds
 pub mod Bytes
 pub mod Exactly
 pub mod Forms
-pub mod Examples
 pub mod Parts

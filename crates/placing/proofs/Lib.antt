@@ -5,4 +5,5 @@ pub mod Scans
 pub mod Whole
 pub mod Words
 pub mod Judgements
-pub mod Examples
+pub mod Told
+pub mod Wrong

@@ -6,5 +6,3 @@ pub mod Fitting
 pub mod Bounds
 pub mod Accepted
 pub mod Samples
-pub mod Examples
-pub mod Wrong

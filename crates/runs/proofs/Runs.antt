@@ -2,16 +2,16 @@
 -- Assumes nothing.
 use Prim.Native.Nat.{ℕ, suc, _+_, _-_, _≤_, _<_}
 use native.Mathlib.Omega.{arith}
-use mathlib.Core.Path.{_≡_, refl, sym}
+use mathlib.Core.Path.{_≡_, refl, sym, ap, _∙_}
 use mathlib.Core.Bool.{Bool, true, false}
-use mathlib.Core.List.{List, [], _∷_, _++_}
+use mathlib.Core.List.{List, [], _∷_, _++_, append-assoc}
 use lib.ListN.{length, take}
 use Rattle.refusals.specs.declared.Fault.{Fault}
 use Rattle.refusals.specs.declared.Fault.the-variants.{Items}
 use Rattle.refusals.proofs.Apart.{apart}
 use Rattle.items.specs.Item.{eight}
 use Rattle.history.specs.Event.{Event}
-use Rattle.runs.specs.Run.{Bench, Outcome, Stopped, Ran, before, dealt, run}
+use Rattle.runs.specs.Run.{Bench, Outcome, Stopped, Ran, before, dealt, run, lastState}
 
 -- How a move was dealt with: it took the next item, or none.
 pub data Deal {S : Type 0} (b : Bench S) (s : S) (code : ℕ) (items : List (List ℕ)) (x : List ℕ) (left : List (List ℕ)) : Type 0 where
@@ -86,6 +86,77 @@ run-leftover {S} b s k items more (code ∷ codes) es e =
     go true [] f ih = apart cc
     go true (x ∷ left) f ih = onward x left f ih
     go false list f ih = onward (eight []) list f ih
+
+-- A move that was dealt with, and those after it.
+module _ {S : Type 0} (b : Bench S) (s : S) (items : List (List ℕ)) (code : ℕ) (codes x : List ℕ) (left : List (List ℕ)) where
+  pub run-on : (k : ℕ) → Deal b s code items x left
+      → run b s k items (code ∷ codes) ≡ before (b .move s code x .events) (run b (b .move s code x .state) (suc k) left codes)
+  unfolding run
+  run-on k (Took t l) = rw (t, l)
+  run-on k (Skipped t z l) = rw (t, l, z)
+
+  last-on : Deal b s code items x left → lastState b s items (code ∷ codes) ≡ lastState b (b .move s code x .state) left codes
+  unfolding lastState
+  last-on (Took t l) = rw (t, l)
+  last-on (Skipped t z l) = rw (t, l, z)
+
+-- What each move keeps holds in the last state.
+pub last-all : {S : Type 0} (b : Bench S) (I : S → Type 0) → ((s : S) (code : ℕ) (x : List ℕ) → I s → I (b .move s code x .state))
+    → (codes : List ℕ) (s : S) (items : List (List ℕ)) → I s → I (lastState b s items codes)
+unfolding lastState
+last-all b I keeps [] s items i = i
+last-all {S} b I keeps (code ∷ codes) s items i =
+    go (b .takes s code) items (λ x left. last-all b I keeps codes _ left (keeps s code x i))
+  where
+    go : (t : Bool) (list : List (List ℕ)) → ((x : List ℕ) (left : List (List ℕ)) → I (lastState b (b .move s code x .state) left codes))
+        → I (dealt s t list (λ x left. lastState b (b .move s code x .state) left codes))
+    go true [] ih = i
+    go true (x ∷ left) ih = ih x left
+    go false list ih = ih _ list
+
+-- How a run goes on: more moves start in its last state, with the items that are left.
+abbrev pub GoesOn : {S : Type 0} → Bench S → S → List (List ℕ) → List ℕ → List Event → Type 0
+GoesOn b s items codes es =
+    (left : List (List ℕ))
+    × ((k : ℕ) (more : List ℕ)
+    → run b s k items (codes ++ more) ≡ before es (run b (lastState b s items codes) (k + length codes) left more))
+
+before-none : (o : Outcome) → o ≡ before [] o
+before-none (Stopped f k) = refl
+before-none (Ran gs) = refl
+
+before-more : (es fs : List Event) (o : Outcome) → before es (before fs o) ≡ before (es ++ fs) o
+before-more es fs (Stopped f k) = refl
+before-more es fs (Ran gs) = ap Ran (sym (append-assoc es fs gs))
+
+pub run-goes-on : {S : Type 0} (b : Bench S) (s : S) (k : ℕ) (items : List (List ℕ)) (codes : List ℕ) (es : List Event)
+    → run b s k items codes ≡ Ran es → GoesOn b s items codes es
+unfolding lastState
+run-goes-on {S} b s k items codes es =
+    run-all b (λ s items. Unit {0}) (GoesOn b) (λ s items u. none s items)
+    (λ s items code x left u d. (tt, λ codes es ih. more s items code x left d codes es ih))
+    s
+    k
+    items
+    codes
+    es
+    tt
+  where
+    none : (s : S) (items : List (List ℕ)) → GoesOn b s items [] []
+    none s items = (items, λ k more. let same : k + 0 ≡ k = omega arith in rw same (before-none _))
+
+    more : (s : S) (items : List (List ℕ)) (code : ℕ) (x : List ℕ) (left : List (List ℕ)) → Deal b s code items x left
+        → (codes : List ℕ) (es : List Event) → GoesOn b (b .move s code x .state) left codes es
+        → GoesOn b s items (code ∷ codes) (b .move s code x .events ++ es)
+    more s items code x left d codes es ih = (
+      ih .0,
+      λ k rest.
+          let same : k + suc (length codes) ≡ suc k + length codes = omega arith in
+          let next = run b (lastState b (b .move s code x .state) left codes) (suc k + length codes) (ih .0) rest in
+          run-on b s items code (codes ++ rest) x left k d
+          ∙ ap (before (b .move s code x .events)) (ih .1 (suc k) rest)
+          ∙ rw (same, last-on b s items code codes x left d) (before-more (b .move s code x .events) es next),
+    )
 
 -- What a run that stops tells: it is for want of an item, at one of its moves, and the moves before that one run to their end.
 pub record Lacking {S : Type 0} (b : Bench S) (s : S) (k : ℕ) (items : List (List ℕ)) (codes : List ℕ) (f : Fault) (j : ℕ) : Type 0 where
