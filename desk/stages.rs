@@ -42,43 +42,20 @@ pub struct Staged {
 }
 
 impl Staged {
-    fn write_open(&self) -> bool {
-        self.writer != WriterStage::Idle
-    }
-
-    fn writer_at_latest(&self) -> bool {
-        self.control.writer.pair == self.control.latest
-    }
-
-    fn reader_at_latest(&self) -> bool {
-        self.control.reader.pair == self.control.latest
-    }
-
     fn reading_is_rp(&self) -> bool {
         self.control.reading == self.control.reader.pair
-    }
-
-    // The reader has its pair and has not announced it.
-    fn pair_only(&self) -> bool {
-        self.reader == ReaderStage::HasPair
     }
 }
 
 // The parts of the control invariant by name; wp, wi, rp and ri are the pair and the index of the writer and of the reader.
-pub const CONTROL: [(&str, fn(&Staged) -> bool); 8] = [
+pub const CONTROL: [(&str, fn(&Staged) -> bool); 5] = [
     ("announced: reading = rp", announced),
     ("writer has its index: wi = not slot[wp]", writer_index),
-    ("writer has set: wi = slot[wp]", writer_set),
     ("both at one pair: ri = slot[rp]", both_at_one_pair),
     ("pair only, rp not latest: reading = rp", reader_former),
-    ("pair only, rp latest, wp not: reading = rp", reader_latest),
     (
-        "not pair only, wp not latest: reading = latest",
-        reader_elsewhere,
-    ),
-    (
-        "pair only, rp not latest: wp = latest",
-        writer_beside_former,
+        "a write is open, wp not latest: reading = latest",
+        writer_former,
     ),
 ];
 
@@ -91,11 +68,6 @@ fn writer_index(s: &Staged) -> bool {
     s.writer != WriterStage::HasIndex || index != s.control.slot_of(pair)
 }
 
-fn writer_set(s: &Staged) -> bool {
-    let Core { pair, index } = s.control.writer;
-    s.writer != WriterStage::HasSet || index == s.control.slot_of(pair)
-}
-
 // The reader has its index, the writer its pair or its index, and rp = wp.
 fn both_at_one_pair(s: &Staged) -> bool {
     let Core { pair, index } = s.control.reader;
@@ -105,20 +77,11 @@ fn both_at_one_pair(s: &Staged) -> bool {
 }
 
 fn reader_former(s: &Staged) -> bool {
-    !s.pair_only() || s.reader_at_latest() || s.reading_is_rp()
+    let at_latest = s.control.reader.pair == s.control.latest;
+    s.reader != ReaderStage::HasPair || at_latest || s.reading_is_rp()
 }
 
-// The last three speak of an open write.
-fn reader_latest(s: &Staged) -> bool {
-    let at_latest = s.pair_only() && s.reader_at_latest();
-    !at_latest || !s.write_open() || s.writer_at_latest() || s.reading_is_rp()
-}
-
-fn reader_elsewhere(s: &Staged) -> bool {
-    let reading_is_latest = s.control.reading == s.control.latest;
-    s.pair_only() || !s.write_open() || s.writer_at_latest() || reading_is_latest
-}
-
-fn writer_beside_former(s: &Staged) -> bool {
-    !s.pair_only() || s.reader_at_latest() || !s.write_open() || s.writer_at_latest()
+fn writer_former(s: &Staged) -> bool {
+    let at_latest = s.control.writer.pair == s.control.latest;
+    s.writer == WriterStage::Idle || at_latest || s.control.reading == s.control.latest
 }

@@ -40,7 +40,7 @@ pub record TrulyPlaced (n : ℕ) (initial : List ℕ) (items : List (List ℕ)) 
   pub true-numbers : TrueNumbers n tags numbers
   pub placing : Placing (writesOf n initial es) (readsOf es) (length (readsOf es)) numbers
 
--- Demand 3: "every accepted run of the four slots from fresh gets a placing, in every order of moves".
+-- Every accepted run of the four slots from fresh gets a placing, in every order of moves.
 abbrev pub EveryRunPlaced : Type 0
 EveryRunPlaced =
     (n : ℕ) (initial : List ℕ) (items : List (List ℕ)) (codes : List ℕ) (es : List Event) → isWidth n ≡ true
