@@ -2,14 +2,15 @@
 // Built by: rustc -O desk/orders.rs -L target/staticlib -l static=host --out-dir target/desk
 // Run by: target/desk/orders states N WRITES, which tries the invariants in every state that width N reaches with at most WRITES writes
 // called; target/desk/orders control, which tries the control invariant in every control state, reached or not;
-// target/desk/orders wrong, which finds out wrong procedures; or target/desk/orders lists N MOVES, which has the library run and judge
-// every list of MOVES moves.
+// target/desk/orders wrong, which finds out wrong procedures; target/desk/orders lists N MOVES, which has the library run and judge every
+// list of MOVES moves; or target/desk/orders moves N ROW .., which shows the moves of rows such as w5 and r2 one by one.
 
 mod control_states;
 mod invariants;
 mod library;
 mod log_lines;
 mod move_lists;
+mod move_table;
 mod numbers;
 mod plain_judge;
 mod procedures;
@@ -59,7 +60,13 @@ fn run(arguments: &[&str]) -> Result<String, Box<dyn Error>> {
         ["control"] => Ok(control_states::check()?),
         ["wrong"] => Ok(wrong_orders::print_all()?),
         ["lists", n, moves] => Ok(move_lists::check(width(n)?, length(moves)?)?),
-        _ => Err("wanted: states N WRITES, control, wrong, or lists N MOVES".into()),
+        ["moves", n, rows @ ..] => {
+            let procedures = SIMPSON.with_words(width(n)?);
+            Ok(move_table::table(&procedures, &move_table::in_moves(rows)?))
+        }
+        _ => {
+            Err("wanted: states N WRITES, control, wrong, lists N MOVES, or moves N ROW ..".into())
+        }
     }
 }
 
