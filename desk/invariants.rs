@@ -13,27 +13,31 @@ struct View<'a> {
 
 type Named = (&'static str, fn(&View) -> bool);
 
-// com[p] is the number of the write that last set slot[p], taken what the last read took with its index.
+// shows[p] is the number of the write that last set slot[p], taken what the last read took with its index.
 const NUMBERS: [Named; 9] = [
-    ("returned <= com[latest]", |v| {
-        v.state.returned <= v.latest_com()
+    ("returned <= shows[latest]", |v| {
+        v.state.returned <= v.shown_by_latest()
     }),
-    ("com[p] <= called", |v| {
-        v.state.com.iter().all(|&com| com <= v.state.called)
+    ("shows[p] <= called", |v| {
+        v.state.shows.iter().all(|&number| number <= v.state.called)
     }),
-    ("writer has set: com[wp] = called", |v| {
-        v.staged.writer != WriterStage::HasSet || v.writers_com() == v.state.called
+    ("writer has set: shows[wp] = called", |v| {
+        v.staged.writer != WriterStage::HasSet || v.shown_by_writers() == v.state.called
     }),
-    ("com[p] <= returned, or the writer has set", com_returned),
-    ("taken <= com[latest]", |v| v.state.taken <= v.latest_com()),
-    ("pair and no index: taken <= com[rp]", |v| {
-        !v.before_index() || v.state.taken <= v.readers_com()
+    ("a write is open: returned < called", |v| {
+        v.staged.writer == WriterStage::Idle || v.state.returned < v.state.called
     }),
-    ("pair and no index: low <= com[rp]", |v| {
-        !v.before_index() || v.state.low <= v.readers_com()
+    ("taken <= shows[latest]", |v| {
+        v.state.taken <= v.shown_by_latest()
     }),
-    ("pair and no index: com[rp] <= com[latest]", |v| {
-        !v.before_index() || v.readers_com() <= v.latest_com()
+    ("pair and no index: taken <= shows[rp]", |v| {
+        !v.before_index() || v.state.taken <= v.shown_by_readers()
+    }),
+    ("pair and no index: low <= shows[rp]", |v| {
+        !v.before_index() || v.state.low <= v.shown_by_readers()
+    }),
+    ("pair and no index: shows[rp] <= shows[latest]", |v| {
+        !v.before_index() || v.shown_by_readers() <= v.shown_by_latest()
     }),
     ("reader has its index: low <= taken", |v| {
         !v.reader_has_index() || v.state.low <= v.state.taken
@@ -41,7 +45,7 @@ const NUMBERS: [Named; 9] = [
 ];
 
 const WORDS: [Named; 4] = [
-    ("slot (p, slot[p]) is tagged com[p]", slots_in_view),
+    ("slot (p, slot[p]) is tagged shows[p]", slots_in_view),
     ("words stored so far are the write's", stored_so_far),
     ("the slot of a read with its index is tagged taken", |v| {
         !v.reader_has_index()
@@ -73,16 +77,16 @@ impl View<'_> {
         self.staged.reader == ReaderStage::HasIndex
     }
 
-    fn writers_com(&self) -> u8 {
-        self.state.com_of(self.state.control.writer.pair)
+    fn shown_by_writers(&self) -> u8 {
+        self.state.shown_by(self.state.control.writer.pair)
     }
 
-    fn readers_com(&self) -> u8 {
-        self.state.com_of(self.state.control.reader.pair)
+    fn shown_by_readers(&self) -> u8 {
+        self.state.shown_by(self.state.control.reader.pair)
     }
 
-    fn latest_com(&self) -> u8 {
-        self.state.com_of(self.state.control.latest)
+    fn shown_by_latest(&self) -> u8 {
+        self.state.shown_by(self.state.control.latest)
     }
 }
 
@@ -91,19 +95,13 @@ fn first_tagged(tags: &Tags, words: usize, number: u8) -> bool {
     tags[..words].iter().all(|&tag| tag == number)
 }
 
-// Only the write that has set slot[wp] and not yet latest is in com and has not returned.
-fn com_returned(v: &View) -> bool {
-    let has_set = v.staged.writer == WriterStage::HasSet;
-    [false, true].iter().all(|&pair| {
-        let own = has_set && pair == v.state.control.writer.pair;
-        v.state.com_of(pair) <= v.state.returned + u8::from(own)
-    })
-}
-
 fn slots_in_view(v: &View) -> bool {
     [false, true].iter().all(|&pair| {
         let index = v.state.control.slot_of(pair);
-        v.all_tagged(v.state.tags_at(Core { pair, index }), v.state.com_of(pair))
+        v.all_tagged(
+            v.state.tags_at(Core { pair, index }),
+            v.state.shown_by(pair),
+        )
     })
 }
 

@@ -76,7 +76,7 @@ pub struct State {
     pub called: u8,
     pub returned: u8,
     // The number of the write that last set slot[p], for each pair p.
-    pub com: [u8; 2],
+    pub shows: [u8; 2],
     // The number that the last read took with its index.
     pub taken: u8,
     // The low of the open read or, where none is open, of the last.
@@ -95,15 +95,15 @@ impl State {
             loaded: [0; 8],
             called: 0,
             returned: 0,
-            com: [0; 2],
+            shows: [0; 2],
             taken: 0,
             low: 0,
             before: 0,
         }
     }
 
-    pub fn com_of(&self, pair: bool) -> u8 {
-        self.com[usize::from(pair)]
+    pub fn shown_by(&self, pair: bool) -> u8 {
+        self.shows[usize::from(pair)]
     }
 
     pub fn tags_at(&self, core: Core) -> &Tags {
@@ -167,8 +167,8 @@ impl State {
                 self.slots[usize::from(writer.pair)][usize::from(writer.index)][word] = self.called
             }
             Action::Load(word) => self.loaded[word] = self.tags_at(reader)[word],
-            Action::SetSlot => self.com[usize::from(writer.pair)] = self.called,
-            Action::ReaderIndex => self.taken = self.com_of(reader.pair),
+            Action::SetSlot => self.shows[usize::from(writer.pair)] = self.called,
+            Action::ReaderIndex => self.taken = self.shown_by(reader.pair),
             _ => {}
         }
     }

@@ -7,8 +7,8 @@ use Rattle.refusals.specs.declared.Fault.{Fault}
 use Rattle.refusals.specs.declared.Fault.the-variants.{Cut, Form, Turn, NoPlace}
 use Rattle.refusals.specs.declared.Answer.{Answer}
 use Rattle.refusals.specs.declared.Answer.the-variants.{Accepted, Refused}
-use Rattle.numbers.specs.declared.Num.the-variants.{Value, Bad}
-use Rattle.numbers.specs.Number.{numberOf, bytesOf}
+use Rattle.numbers.specs.declared.Num.the-variants.{Value}
+use Rattle.numbers.specs.Number.{numberOf, answerOf, bytesOf}
 use Rattle.items.specs.Item.{eight}
 use Rattle.history.specs.Event.{Event, CW, RW, CR, RR}
 use Rattle.log.specs.Log.{logBytes}
@@ -39,11 +39,12 @@ lent = replicate 16 9
 abbrev pub begun : List ℕ → List ℕ
 begun front = front ++ drop (length front) lent
 
--- A number is written so and read back, with nothing left over. `Runs` is what `run` promises, and `Judges` what `judge` does; a refusal
--- leaves what is lent as it was.
+-- A number is written so and read back, with nothing left over; bytes that are no number are refused at place 0. `Runs` is what `run`
+-- promises, and `Judges` what `judge` does; a refusal leaves what is lent as it was. Each allows one outcome only (`Judges` by the law
+-- `judges-unique` of `placing`), so P8's entry is 2 and not 1.
 abbrev pub Holds : Example → Type 0
 Holds (number v bytes) = (bytesOf v ≡ bytes) × (numberOf bytes ≡ Value v (length bytes))
-Holds (no-number bytes fault) = numberOf bytes ≡ Bad fault
+Holds (no-number bytes fault) = answerOf (numberOf bytes) ≡ Refused fault 0
 Holds (no-file s fault place) = Runs s lent (Refused fault place) lent × Judges s lent (Refused fault place) lent
 Holds (ran moves es log placing) =
     (logBytes 1 (one 0) es ≡ log) × Runs moves lent (Accepted (length log)) (begun log)
@@ -96,7 +97,8 @@ marked =
     ∷ judged 0 (CW (one 7) ∷ CR ∷ RR (one 7) ∷ CR ∷ RR (one 0) ∷ [])
     (1 ∷ 0 ∷ 5 ∷ 0 ∷ 7 ∷ 2 ∷ 3 ∷ 7 ∷ 2 ∷ 3 ∷ 0 ∷ [])
     (Refused NoPlace 2) []
-    -- P10 "initial 7: CR, CW 8, RW, CW 7, RR 7, CR, RR 8: placing 0 then 1. The newest fit for the first read spoils the second."
+    -- P10 "initial 7: CR, CW 8, RW, CW 7, RR 7, CR, RR 8: placing 0 then 1. The newest fit for the first read spoils the second." (What
+    -- the newest fit would answer is refuted by the law `newest-fit-refused` of `placing`.)
     ∷ judged 7 (CR ∷ CW (one 8) ∷ RW ∷ CW (one 7) ∷ RR (one 7) ∷ CR ∷ RR (one 8) ∷ [])
     (1 ∷ 7 ∷ 7 ∷ 2 ∷ 0 ∷ 8 ∷ 1 ∷ 0 ∷ 7 ∷ 3 ∷ 7 ∷ 2 ∷ 3 ∷ 8 ∷ [])
     (Accepted 2) (0 ∷ 1 ∷ [])

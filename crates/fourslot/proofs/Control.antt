@@ -27,12 +27,14 @@ storing w-pair = false
 storing w-index = true
 storing w-set = false
 
+-- The writer has set slot[pair].
 abbrev pub committed : WriterStage → Bool
 committed w-idle = false
 committed w-pair = false
 committed w-index = false
 committed w-set = true
 
+-- The reader has its pair and has not announced it.
 abbrev selected : ReaderStage → Bool
 selected r-idle = false
 selected r-pair = true
@@ -46,6 +48,7 @@ opening r-pair = true
 opening r-announced = true
 opening r-index = false
 
+-- The reader has announced its pair.
 abbrev announced : ReaderStage → Bool
 announced r-idle = false
 announced r-pair = false
@@ -64,9 +67,9 @@ same = Bool·beq
 
 -- The bits are latest, reading, slot[0], slot[1], the writer's pair and index, the reader's pair and index.
 -- 1. A pair that was announced is still in reading. 2. The slot that is written is not the one that its pair shows. 3. The slot that is
--- read is the one that its pair shows, beside a writer of that pair that has not set slot[pair] yet. The last two forbid that a read goes
--- back behind the one before: 4. a pair that was just taken and is no longer the latest is in reading; 5. while a write goes into the pair
--- that is not the latest, the latest is in reading.
+-- read is the one that its pair shows, beside a writer of that pair that has not set slot[pair] yet. With the first, the last two forbid
+-- that a read goes back behind the one before: 4. a pair that was just taken and is no longer the latest is in reading; 5. while a write
+-- goes into the pair that is not the latest, the latest is in reading.
 pub inv : WriterStage → ReaderStage → Test
 inv ws rs l r s0 s1 wp wi rp ri =
     imp (announced rs) (same r rp)
@@ -88,7 +91,7 @@ readerKeeps ws r-pair l r s0 s1 wp wi rp ri = inv ws r-announced l rp s0 s1 wp w
 readerKeeps ws r-announced l r s0 s1 wp wi rp ri = inv ws r-index l r s0 s1 wp wi rp (cond rp s1 s0)
 readerKeeps ws r-index l r s0 s1 wp wi rp ri = inv ws r-idle l r s0 s1 wp wi rp ri
 
--- While the reader has its pair and not its index, a write that is about to set slot of that pair has it for the latest.
+-- While the reader has its pair and not its index, a write that is about to set slot[.] of that pair has it for the latest.
 abbrev pub safe : WriterStage → ReaderStage → Test
 safe ws rs l r s0 s1 wp wi rp ri = imp (storing ws && opening rs && same rp wp) (same rp l)
 

@@ -83,8 +83,8 @@ every-run-placed n initial items codes es w ran =
     refl
     (le-refl _) in
     record {
-      tags = r .tags;
-      tagged = rw from (r .tagged);
+      tagged = r .tags;
+      beside = rw from (r .tagged);
       same-kinds = r .kinds;
       numbers = r .numbers;
       true-numbers =
@@ -109,9 +109,9 @@ true-unique {ps = ps} {qs = qs} h e p q =
     ext-getD 0 ps qs same (λ j l. sym (p .common j 0 l h) ∙ rw e (q .common j 0 (omega arith) h))
 
 pub earliest-at-most-true : EarliestAtMostTrue
-earliest-at-most-true n initial items codes es tags numbers entries w ran tagged borne earliest j l =
+earliest-at-most-true n initial items codes es tagged numbers entries w ran with borne earliest j l =
     let t = every-run-placed n initial items codes es w ran in
-    let first = t .tagged in
-    let same : t .tags ≡ tags = cc in
+    let first = t .beside in
+    let same : t .tagged ≡ tagged = cc in
     let is : t .numbers ≡ numbers = true-unique (between-true 1 8 n w .0) same (t .true-numbers) borne in
     rw (← is) (earliest .smallest (t .numbers) (t .placing) j l)

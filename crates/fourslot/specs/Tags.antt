@@ -41,12 +41,12 @@ tagLoad t g = record { called = g .called; slots = g .slots; loaded = loaded (t 
 abbrev pub tagMove : Procedures → Control → ℕ → Tags → Tags
 tagMove ps c code g = cond (eqb code 0) (tagStore (step ps Writer c) g) (tagLoad (step ps Reader c) g)
 
--- The machine with the numbers beside it. Its events are the machine's own, with numbers in place of the words: a write's own number, and
--- those that a read loaded.
+-- The machine with the numbers beside it.
 pub record Tagged : Type 0 where
   pub state : State
   pub tags : Tags
 
+-- Its events are the machine's own, with numbers in place of the words: a write's own number, and those that a read loaded.
 abbrev pub withTags : Procedures → Bench Tagged
 withTags ps =
     record {
@@ -60,7 +60,8 @@ withTags ps =
           record { state = record { state = done .state; tags = tags }; events = map (λ e. event (kindOf e) beside) (done .events) };
     }
 
--- The true number of a finished read: "the number of the write whose words were loaded" (02, #104), the same one beside all n words.
-pub record TrueNumbers (n : ℕ) (tags : List Event) (numbers : List ℕ) : Type 0 where
-  pub one-each : length numbers ≡ length (readsOf tags)
-  pub common : (j k : ℕ) → j < length numbers → k < n → getD (readAt (readsOf tags) j .item) k 0 ≡ getD numbers j 0
+-- The true number of a finished read: "the number of the write whose words were loaded" (02, #104), the same one beside all n words. The
+-- events are those of a run with the numbers beside it.
+pub record TrueNumbers (n : ℕ) (tagged : List Event) (numbers : List ℕ) : Type 0 where
+  pub one-each : length numbers ≡ length (readsOf tagged)
+  pub common : (j k : ℕ) → j < length numbers → k < n → getD (readAt (readsOf tagged) j .item) k 0 ≡ getD numbers j 0

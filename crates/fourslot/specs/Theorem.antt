@@ -25,19 +25,20 @@ abbrev pub RunsTo : ℕ → List ℕ → List (List ℕ) → List ℕ → List E
 RunsTo n initial items codes es = run (fourSlots simpson) (fourSlots simpson .start n initial) 0 items codes ≡ Ran es
 
 abbrev pub TagsTo : ℕ → List ℕ → List (List ℕ) → List ℕ → List Event → Type 0
-TagsTo n initial items codes tags = run (withTags simpson) (withTags simpson .start n initial) 0 items codes ≡ Ran tags
+TagsTo n initial items codes tagged = run (withTags simpson) (withTags simpson .start n initial) 0 items codes ≡ Ran tagged
 
 -- The item of each write number of a run, from 0.
 abbrev pub writesOf : ℕ → List ℕ → List Event → List (List ℕ)
 writesOf n initial es = numbered (firstWords n initial) es
 
--- A run's events have tags, event by event; its finished reads have true numbers, and these are a placing of its events.
+-- A run's events stand beside those with numbers, event by event; its finished reads have true numbers, and these are a placing of its
+-- events.
 pub record TrulyPlaced (n : ℕ) (initial : List ℕ) (items : List (List ℕ)) (codes : List ℕ) (es : List Event) : Type 0 where
-  pub tags : List Event
-  pub tagged : TagsTo n initial items codes tags
-  pub same-kinds : map kindOf tags ≡ map kindOf es
+  pub tagged : List Event
+  pub beside : TagsTo n initial items codes tagged
+  pub same-kinds : map kindOf tagged ≡ map kindOf es
   pub numbers : List ℕ
-  pub true-numbers : TrueNumbers n tags numbers
+  pub true-numbers : TrueNumbers n tagged numbers
   pub placing : Placing (writesOf n initial es) (readsOf es) (length (readsOf es)) numbers
 
 -- Every accepted run of the four slots from fresh gets a placing, in every order of moves.
@@ -56,8 +57,8 @@ EveryReadWhole =
 -- 02, #104: "the judge's entry never exceeds the true one". By its promise the judge's entries are the earliest placing.
 abbrev pub EarliestAtMostTrue : Type 0
 EarliestAtMostTrue =
-    (n : ℕ) (initial : List ℕ) (items : List (List ℕ)) (codes : List ℕ) (es tags : List Event) (numbers entries : List ℕ)
-    → isWidth n ≡ true → RunsTo n initial items codes es → TagsTo n initial items codes tags → TrueNumbers n tags numbers
+    (n : ℕ) (initial : List ℕ) (items : List (List ℕ)) (codes : List ℕ) (es tagged : List Event) (numbers entries : List ℕ)
+    → isWidth n ≡ true → RunsTo n initial items codes es → TagsTo n initial items codes tagged → TrueNumbers n tagged numbers
     → Earliest (writesOf n initial es) (readsOf es) (length (readsOf es)) entries → (j : ℕ) → j < length (readsOf es)
     → getD entries j 0 ≤ getD numbers j 0
 

@@ -52,7 +52,8 @@ unannounced Reader n =
       closing = [];
     }
 
--- Two slots and the bit latest (02, #113): index := not latest, the words, latest := index; and index := latest, the words.
+-- Two slots and the bit latest (02, #113): index := not latest, the words, latest := index; and index := latest, the words. The pair stays
+-- 0, so only the slots (0, 0) and (0, 1) are used.
 unfoldable pub twoSlots : Procedures
 twoSlots Writer n =
     record {
