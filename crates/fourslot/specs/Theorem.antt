@@ -16,7 +16,8 @@ use Rattle.machine.specs.Machine.{firstWords}
 use Rattle.history.specs.Event.{Event, kindOf}
 use Rattle.history.specs.Reads.{written, numbered, readsOf}
 use Rattle.history.specs.Placing.{readAt, Placing, Earliest}
-use Rattle.runs.specs.Run.{Ran, run, lastState, fourSlots, Runs}
+use Rattle.moves.specs.MoveFile.{moveFileOf}
+use Rattle.runs.specs.Run.{Ran, run, lastState, fourSlots, runOf, Runs}
 use Rattle.placing.specs.Judgement.{eventsFrom, Judges}
 use Rattle.fourslot.specs.Tags.{withTags, TrueNumbers}
 
@@ -54,7 +55,7 @@ EveryReadWhole =
     → RunsTo n initial items codes es → (j : ℕ) → j < length (readsOf es)
     → (w : ℕ) × (w ≤ length (written es)) × (getD (writesOf n initial es) w [] ≡ readAt (readsOf es) j .item)
 
--- 02, #104: "the judge's entry never exceeds the true one". By its promise the judge's entries are the earliest placing.
+-- The earliest placing is at most the true numbers, read by read.
 abbrev pub EarliestAtMostTrue : Type 0
 EarliestAtMostTrue =
     (n : ℕ) (initial : List ℕ) (items : List (List ℕ)) (codes : List ℕ) (es tagged : List Event) (numbers entries : List ℕ)
@@ -84,3 +85,16 @@ RunJudged =
     (moves out filled entries after : List ℕ) (k : ℕ) (answer : Answer) → Below 256 moves → Runs moves out (Accepted k) filled
     → Judges (take k filled) entries answer after → length (readsOf (eventsFrom (take k filled))) ≤ length entries
     → answer ≡ Accepted (length (readsOf (eventsFrom (take k filled))))
+
+-- The true numbers of the run of a move file.
+pub record TrueNumbersOf (moves numbers : List ℕ) : Type 0 where
+  pub tagged : List Event
+  pub beside : runOf (withTags simpson) 1 (moveFileOf 24576 1 moves) moves ≡ Ran tagged
+  pub true-numbers : TrueNumbers (moveFileOf 24576 1 moves .n) tagged numbers
+
+-- 02, #104: "the judge's entry never exceeds the true one".
+abbrev pub EntriesAtMostTrue : Type 0
+EntriesAtMostTrue =
+    (moves out filled entries after numbers : List ℕ) (k r : ℕ) → Below 256 moves → Runs moves out (Accepted k) filled
+    → Judges (take k filled) entries (Accepted r) after → TrueNumbersOf moves numbers
+    → (j : ℕ) → j < r → getD after j 0 ≤ getD numbers j 0
