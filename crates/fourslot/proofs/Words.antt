@@ -1,7 +1,7 @@
 -- The words of the four slots and of the reader's item, as lists: what a store and a load change, and what they leave.
 -- Assumes nothing.
 use Prim.Native.Nat.{ℕ, suc, _+_, _≤_, _<_}
-use native.Mathlib.Nat.{min-le-left}
+use native.Mathlib.Nat.{zero-add, min-le-left}
 use native.Mathlib.Omega.{arith}
 use native.Mathlib.Decide.{ℕ-discrete, decLt}
 use mathlib.Core.Path.{_≡_, refl, sym, _∙_}
@@ -62,12 +62,16 @@ sets-past : (vs l : List ℕ) (i k : ℕ) → i + length vs ≤ k → getD (sets
 sets-past [] l i k h = refl
 sets-past (v ∷ vs) l i k h = sets-past vs (set l i v) (suc i) k (omega arith) ∙ getD-set-other l i k v 0 (omega arith)
 
+-- And what was stored at the front stands there.
+pub sets-at : (vs l : List ℕ) (k : ℕ) → length vs ≤ length l → k < length vs → getD (sets l 0 vs) k 0 ≡ getD vs k 0
+sets-at vs l k room h =
+    rw (sets-eq vs l 0 (omega (arith, zero-add (length vs)))) (List·getD-append vs (drop (0 + length vs) l) 0 k h)
+
 -- The first n words of an item are its own, and past them stands 0.
 first-at : (n k : ℕ) (l : List ℕ) → length l ≡ 8 → n ≤ 8 → k < n → getD (firstWords n l) k 0 ≡ getD l k 0
 first-at n k l long small h =
     let front = length-take-le n l (omega arith) in
-    rw (sets-eq (take n l) (replicate 8 0) 0 (omega arith))
-    (List·getD-append (take n l) (drop (0 + length (take n l)) (replicate 8 0)) 0 k (omega arith) ∙ getD-take n l k 0 h)
+    sets-at (take n l) (replicate 8 0) k (omega arith) (omega arith) ∙ getD-take n l k 0 h
 
 first-past : (n k : ℕ) (x : List ℕ) → n ≤ k → k < 8 → getD (firstWords n x) k 0 ≡ 0
 first-past n k x past h =

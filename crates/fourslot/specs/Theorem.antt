@@ -92,9 +92,9 @@ pub record TrueNumbersOf (moves numbers : List ℕ) : Type 0 where
   pub beside : runOf (withTags simpson) 1 (moveFileOf 24576 1 moves) moves ≡ Ran tagged
   pub true-numbers : TrueNumbers (moveFileOf 24576 1 moves .n) tagged numbers
 
--- 02, #104: "the judge's entry never exceeds the true one".
+-- Such a run has true numbers, and 02, #104: "the judge's entry never exceeds the true one".
 abbrev pub EntriesAtMostTrue : Type 0
 EntriesAtMostTrue =
-    (moves out filled entries after numbers : List ℕ) (k r : ℕ) → Below 256 moves → Runs moves out (Accepted k) filled
-    → Judges (take k filled) entries (Accepted r) after → TrueNumbersOf moves numbers
-    → (j : ℕ) → j < r → getD after j 0 ≤ getD numbers j 0
+    (moves out filled entries after : List ℕ) (k r : ℕ) → Below 256 moves → Runs moves out (Accepted k) filled
+    → Judges (take k filled) entries (Accepted r) after
+    → (numbers : List ℕ) × TrueNumbersOf moves numbers × ((j : ℕ) → j < r → getD after j 0 ≤ getD numbers j 0)
