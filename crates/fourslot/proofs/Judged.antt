@@ -32,7 +32,7 @@ pub record LogPlaced (s log : List ℕ) : Type 0 where
   pub trues : TrueNumbersOf s numbers
   pub placing : Placing (itemsFrom log) (readsOf (eventsFrom log)) (length (readsOf (eventsFrom log))) numbers
 
-log-placed : (s : List ℕ) (es : List Event) → Below 256 s → outcome (fourSlots simpson) 1 s ≡ Ran es → LogPlaced s (fourLog s)
+pub log-placed : (s : List ℕ) (es : List Event) → Below 256 s → outcome (fourSlots simpson) 1 s ≡ Ran es → LogPlaced s (fourLog s)
 log-placed s es bs ran =
     let file = ran-of s es ran in
     let form = file-form 24576 1 (file .0) s bs (file .1) in
@@ -51,7 +51,7 @@ log-placed s es bs ran =
         → Placing (itemsFrom (fourLog s)) (readsOf (eventsFrom (fourLog s))) (length (readsOf (eventsFrom (fourLog s)))) qs
     of-log log fits qs p = rw (log .spells, log .initial, fits .zeros) p
 
-judged : (log : List ℕ) {room : ℕ} {answer : Answer} {entries qs : List ℕ} → logFrom log .answer ≡ Accepted (length log)
+pub judged : (log : List ℕ) {room : ℕ} {answer : Answer} {entries qs : List ℕ} → logFrom log .answer ≡ Accepted (length log)
     → length (readsOf (eventsFrom log)) ≤ room → Placing (itemsFrom log) (readsOf (eventsFrom log)) (length (readsOf (eventsFrom log))) qs
     → JudgementOf log room answer entries → answer ≡ Accepted (length (readsOf (eventsFrom log)))
 judged log e room q (faulty f p g _ _) = apart cc

@@ -1,0 +1,6 @@
+pub mod Lines
+pub mod Events
+pub mod Placings
+pub mod Texts
+pub mod Logs
+pub mod Benches
