@@ -90,7 +90,7 @@ fn longest_log(last_word: u32) -> Vec<u8> {
 
 // A log of 2,048 reads whose count of events is stored as this.
 fn with_count(stored: [u8; 2]) -> Vec<u8> {
-    let mut log = full_log(Kind::ReadsOnly, 1, 5..6);
+    let mut log = full_log(Kind::ReadsOnly, 1, &(5..=5));
     log[2..4].copy_from_slice(&stored);
     log
 }
@@ -104,10 +104,10 @@ fn full_logs() -> Vec<Fixed> {
         place,
         entries: entries.to_vec(),
     };
-    let (reads, zeros) = (full_log(Kind::ReadsOnly, 1, 5..6), [0; 2_048]);
-    let mixed = full_log(Kind::Mixed, 1, 5..6);
+    let (reads, zeros) = (full_log(Kind::ReadsOnly, 1, &(5..=5)), [0; 2_048]);
+    let mixed = full_log(Kind::Mixed, 1, &(5..=5));
     let numbers: Vec<u32> = (0..1_024).collect();
-    let newest = full_log(Kind::Newest, 1, 1 << 31..u32::MAX);
+    let newest = full_log(Kind::Newest, 1, &(1 << 31..=u32::MAX));
     let longest = longest_log(1 << 21);
     assert!(longest.len() == LONGEST, "the longest log");
     vec![

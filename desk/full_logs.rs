@@ -3,7 +3,7 @@
 use crate::numbers::{put, Item, LONGEST};
 use crate::plain_judge::{Event, Log};
 use crate::random::Random;
-use std::ops::Range;
+use std::ops::RangeInclusive;
 
 // The numbers that a log's file has, in order.
 pub fn numbers_of(log: &Log) -> Vec<u32> {
@@ -66,12 +66,12 @@ fn events_of(kind: Kind, items: &[Item], rounds: usize) -> Vec<Event> {
 }
 
 // A log of the kind with such words and up to 1,024 rounds, as many as 24,576 bytes hold.
-pub fn full_log(kind: Kind, n: usize, words: Range<u32>) -> Vec<u8> {
+pub fn full_log(kind: Kind, n: usize, words: &RangeInclusive<u32>) -> Vec<u8> {
     let mut random = Random::new(1);
     let mut items = vec![[0; 8]; 1_025];
     for item in &mut items {
         for word in &mut item[..n] {
-            *word = words.start + random.below(words.len()) as u32;
+            *word = random.within(words);
         }
     }
     let log_with = |rounds| {

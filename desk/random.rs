@@ -1,5 +1,7 @@
 // Pseudo-random numbers from a seed.
 
+use std::ops::RangeInclusive;
+
 pub struct Random(u64);
 
 impl Random {
@@ -20,6 +22,19 @@ impl Random {
 
     pub fn one_in(&mut self, limit: usize) -> bool {
         self.below(limit) == 0
+    }
+
+    pub fn within(&mut self, numbers: &RangeInclusive<u32>) -> u32 {
+        let (low, high) = numbers.clone().into_inner();
+        low + self.below((high - low) as usize + 1) as u32
+    }
+
+    pub fn bytes(&mut self, count: usize) -> Vec<u8> {
+        let mut bytes = vec![0; count];
+        for four in bytes.chunks_mut(4) {
+            four.copy_from_slice(&self.next().to_le_bytes()[..four.len()]);
+        }
+        bytes
     }
 
     pub fn one_of<T: Copy>(&mut self, choices: &[T]) -> T {

@@ -1,7 +1,8 @@
-// Random logs, lawful and damaged. Nothing is assumed about the fault that a damage gives.
+// Random logs, lawful and damaged.
 
+use crate::damage::{may_be_damaged, File};
 use crate::full_logs::numbers_of;
-use crate::numbers::{put, Item, LONGEST};
+use crate::numbers::Item;
 use crate::plain_judge::{Event, Log};
 use crate::random::Random;
 
@@ -105,6 +106,15 @@ impl Maker<'_> {
     }
 }
 
+fn random_count(random: &mut Random) -> usize {
+    match random.below(256) {
+        0..=47 => random.below(14),
+        48..=63 => 60 + random.below(140),
+        64..=67 => 4_096 - random.one_of(&[0, 1]) * random.below(3_800),
+        _ => 14 + random.below(46),
+    }
+}
+
 // A log that is read as lawful, though its reads may have no placing. Calls may be open at its end.
 fn lawful_log(random: &mut Random) -> Log {
     let n = 1 + random.below(8);
@@ -114,11 +124,7 @@ fn lawful_log(random: &mut Random) -> Log {
         &WORDS
     };
     let words = [(); 3].map(|()| random.one_of(choices));
-    let count = match random.below(16) {
-        0..=2 => random.below(14),
-        3 => 60 + random.below(140),
-        _ => 14 + random.below(46),
-    };
+    let count = random_count(random);
     let writer_share = 2 + random.below(5);
     let slips = random.one_in(3);
     let mut maker = Maker {
@@ -160,63 +166,25 @@ fn damage_events(random: &mut Random, events: &mut Vec<Event>) {
     }
 }
 
-// A place among a log's numbers and the bytes to be stored there.
-fn damage_number(random: &mut Random, log: &Log, numbers: &[u32]) -> (usize, Vec<u8>) {
-    let any = random.next();
-    let mut stored = Vec::new();
-    match random.below(4) {
-        0 => {
-            put(&mut stored, random.one_of(&[0, 9, 9, 10, 1 << 7, any, 8]));
-            (0, stored)
-        }
-        1 => {
-            let count = numbers[log.n + 1];
-            let counts = [4_096, 4_097, 4_097, 4_224, 8_192, any, count + 1];
-            put(&mut stored, random.one_of(&counts));
-            (log.n + 1, stored)
-        }
-        2 if !log.events.is_empty() => {
-            let events = log.events[..random.below(log.events.len())].to_vec();
-            let code = numbers_of(&Log { events, ..*log }).len();
-            put(
-                &mut stored,
-                random.one_of(&[4, 4, 5, 127, 128, any, any % 4]),
-            );
-            (code, stored)
-        }
-        _ => {
-            let place = random.below(numbers.len());
-            put(&mut stored, numbers[place]);
-            match random.below(4) {
-                0 => stored = vec![0xff, 0xff, 0xff, 0xff, 0x10 << random.below(3)],
-                1 => stored = vec![0x80 | any as u8; 5],
-                _ => {
-                    let last = stored.len() - 1;
-                    stored[last] |= 0x80;
-                    stored.push(0);
-                }
-            }
-            (place, stored)
-        }
+fn words_of(n: usize, event: &Event) -> usize {
+    match event {
+        Event::WriteCalled(_) | Event::ReadReturned(_) => n,
+        Event::WriteReturned | Event::ReadCalled => 0,
     }
 }
 
-// Cuts the file, flips bits of it, or lengthens it, at times to about the longest.
-fn damage_bytes(random: &mut Random, bytes: &mut Vec<u8>) {
-    match random.below(4) {
-        0 => bytes.truncate(random.below(bytes.len())),
-        1 => {
-            for _ in 0..=random.below(3) {
-                let at = random.below(bytes.len());
-                bytes[at] ^= 1 << random.below(8);
-            }
-        }
-        2 => {
-            for _ in 0..=random.below(4) {
-                bytes.push(random.next() as u8);
-            }
-        }
-        _ => bytes.resize(LONGEST - 4 + random.below(40), random.next() as u8),
+fn file_of(log: &Log) -> File {
+    let mut next = log.n + 2;
+    let mut codes = Vec::new();
+    for event in &log.events {
+        codes.push(next);
+        next += 1 + words_of(log.n, event);
+    }
+    File {
+        numbers: numbers_of(log),
+        counts: vec![(log.n + 1, 4_096)],
+        codes,
+        last_code: 3,
     }
 }
 
@@ -226,20 +194,5 @@ pub fn random_log(random: &mut Random) -> Vec<u8> {
     if random.one_in(6) {
         damage_events(random, &mut log.events);
     }
-    let numbers = numbers_of(&log);
-    let mut damaged = None;
-    if random.one_in(4) {
-        damaged = Some(damage_number(random, &log, &numbers));
-    }
-    let mut bytes = Vec::new();
-    for (place, &number) in numbers.iter().enumerate() {
-        match &damaged {
-            Some((at, stored)) if *at == place => bytes.extend(stored),
-            _ => put(&mut bytes, number),
-        }
-    }
-    if random.one_in(4) {
-        damage_bytes(random, &mut bytes);
-    }
-    bytes
+    may_be_damaged(random, &file_of(&log))
 }

@@ -1,72 +1,164 @@
-// Counts what came among the compared logs, and says whether that is enough.
+// Counts what came among the compared files, and says whether that is enough.
 
 use crate::numbers::Item;
-use crate::plain_judge::{read, writes_of};
+use crate::plain::{self, MoveFile};
+use crate::plain_judge::{self, Event, Log};
 
-// The answers that a judge may give.
-const NUMBERS: [usize; 11] = [0, 1, 2, 3, 4, 5, 6, 7, 9, 10, 11];
 const NAMES: [&str; 12] = [
     "accepted", "LONG", "CUT", "FORM", "WIDTH", "COUNT", "CODE", "TRAILING", "ITEMS", "TURN",
     "ROOM", "NO PLACE",
 ];
-const MANY_READS: u32 = 5;
 
-// The bars hold from so many logs on.
-const ENOUGH_LOGS: usize = 2_000;
+// The bars hold from so many files on.
+const ENOUGH_FILES: usize = 2_000;
 
-#[derive(Default)]
-pub struct Tally {
-    logs: usize,
-    answers: [usize; 12],
-    widths: [usize; 9],
-    with_equal_items: usize,
+// Each answer that can be given, and each width of an accepted file, is to come once in so many files.
+const ONCE_IN: usize = 50;
+
+// What an accepted file may have, in how many files that is to come once, and how often it came.
+type Class = (&'static str, usize, usize);
+
+fn class(name: &'static str, once_in: usize, has: bool) -> Class {
+    (name, once_in, usize::from(has))
 }
 
-fn some_are_equal(items: &[Item]) -> bool {
+fn has_leftovers(file: &MoveFile, of_writer: usize) -> bool {
+    of_writer.div_ceil(file.n + 4) < file.items.len()
+}
+
+fn has_five_bytes(items: &[Item]) -> bool {
+    items.iter().flatten().any(|&word| word >= 1 << 28)
+}
+
+fn classes_of_moves(bytes: &[u8]) -> Vec<Class> {
+    let Ok(file) = plain::read(bytes) else {
+        return Vec::new();
+    };
+    let of_writer = file.moves.iter().filter(|&&side| side == 0).count();
+    let of_reader = file.moves.len() - of_writer;
+    let both_open = of_writer % (file.n + 4) > 0 && of_reader % (file.n + 3) > 0;
+    vec![
+        class("leftover items", 20, has_leftovers(&file, of_writer)),
+        class("255 items", 50, file.items.len() == 255),
+        class("a word of five bytes", 10, has_five_bytes(&file.items)),
+        class("4,096 moves", 200, file.moves.len() == 4_096),
+        class("five writes", 20, of_writer / (file.n + 4) >= 5),
+        class("five reads", 20, of_reader / (file.n + 3) >= 5),
+        class("both calls open at the end", 10, both_open),
+    ]
+}
+
+fn has_equal_items(items: &[Item]) -> bool {
     (1..items.len()).any(|number| items[..number].contains(&items[number]))
 }
 
+fn reads_of(log: &Log) -> usize {
+    let finished = |event: &&Event| matches!(event, Event::ReadReturned(_));
+    log.events.iter().filter(finished).count()
+}
+
+fn classes_of_log(bytes: &[u8]) -> Vec<Class> {
+    let Ok(log) = plain_judge::read(bytes) else {
+        return Vec::new();
+    };
+    let (reads, writes) = (reads_of(&log), plain_judge::writes_of(&log));
+    let equal = reads >= 5 && has_equal_items(&writes);
+    let many = reads > 256 && writes.len() > 256;
+    vec![
+        class("five reads, and equal items", 10, equal),
+        class("a word of five bytes", 10, has_five_bytes(&writes)),
+        class("above 256 reads and 256 writes", 2_000, many),
+        class("no write", 1_000, writes.len() == 1),
+        class("no finished read", 100, reads == 0),
+    ]
+}
+
+pub struct Tally {
+    name: &'static str,
+    numbers: &'static [usize],
+    classes_of: fn(&[u8]) -> Vec<Class>,
+    files: usize,
+    answers: [usize; 12],
+    widths: [usize; 9],
+    classes: Vec<Class>,
+}
+
 impl Tally {
-    pub fn add(&mut self, log: &[u8], answer: u64) {
-        self.logs += 1;
+    pub fn of_moves() -> Tally {
+        Tally::new(
+            "move files",
+            &[0, 1, 2, 3, 4, 5, 6, 7, 8, 10],
+            classes_of_moves,
+        )
+    }
+
+    pub fn of_logs() -> Tally {
+        Tally::new("logs", &[0, 1, 2, 3, 4, 5, 6, 7, 9, 10, 11], classes_of_log)
+    }
+
+    fn new(
+        name: &'static str,
+        numbers: &'static [usize],
+        classes_of: fn(&[u8]) -> Vec<Class>,
+    ) -> Tally {
+        Tally {
+            name,
+            numbers,
+            classes_of,
+            files: 0,
+            answers: [0; 12],
+            widths: [0; 9],
+            classes: Vec::new(),
+        }
+    }
+
+    pub fn add(&mut self, file: &[u8], answer: u64) {
         let number = (answer >> 32) as usize;
+        self.files += 1;
         self.answers[number] += 1;
-        let Ok(log) = read(log) else {
+        if number == 0 {
+            self.widths[usize::from(file[0])] += 1;
+            self.add_classes((self.classes_of)(file));
+        }
+    }
+
+    fn add_classes(&mut self, classes: Vec<Class>) {
+        if self.classes.is_empty() {
+            self.classes = classes;
             return;
-        };
-        self.widths[log.n] += usize::from([0, 10, 11].contains(&number));
-        let many = number == 0 && answer as u32 >= MANY_READS;
-        self.with_equal_items += usize::from(many && some_are_equal(&writes_of(&log)));
+        }
+        for (sum, class) in self.classes.iter_mut().zip(classes) {
+            sum.2 += class.2;
+        }
     }
 
     pub fn print(&self) {
-        for number in NUMBERS {
+        println!("{} {}", self.files, self.name);
+        for &number in self.numbers {
             println!("{number:2} {:8} {:7}", NAMES[number], self.answers[number]);
         }
-        println!("lawful, of width 1 to 8: {:?}", &self.widths[1..]);
-        println!(
-            "accepted with {MANY_READS} or more reads and equal items: {}",
-            self.with_equal_items
-        );
+        println!("accepted, of width 1 to 8: {:?}", &self.widths[1..]);
+        for (name, _, count) in &self.classes {
+            println!("accepted, with {name}: {count}");
+        }
     }
 
-    // Each answer 1 log in 50, each width, and 1 log in 10 accepted with many reads and equal items.
+    // Fails where an answer, a width or a class comes too seldom.
     pub fn check_bars(&self) -> Result<(), String> {
-        if self.logs < ENOUGH_LOGS {
-            return Ok(());
-        }
-        let rare = NUMBERS
+        let answers = self
+            .numbers
             .iter()
-            .find(|&&number| self.answers[number] * 50 < self.logs);
-        if let Some(&number) = rare {
-            return Err(format!("too few logs have the answer {}", NAMES[number]));
+            .map(|&number| (NAMES[number], ONCE_IN, self.answers[number]));
+        let widths = self.widths[1..]
+            .iter()
+            .map(|&count| ("some width", ONCE_IN, count));
+        let mut all = answers.chain(widths).chain(self.classes.iter().copied());
+        match all.find(|&(_, once_in, count)| count * once_in < self.files) {
+            Some((what, _, count)) if self.files >= ENOUGH_FILES => {
+                let (files, name) = (self.files, self.name);
+                Err(format!("of {files} {name} only {count} have {what}"))
+            }
+            _ => Ok(()),
         }
-        if let Some(n) = (1..=8).find(|&n| self.widths[n] == 0) {
-            return Err(format!("no log has width {n}"));
-        }
-        if self.with_equal_items * 10 < self.logs {
-            return Err("too few logs are accepted with many reads and equal items".into());
-        }
-        Ok(())
     }
 }
