@@ -159,11 +159,16 @@ fn compare(sample: &Path) -> Result<u64, Box<dyn Error>> {
     Ok(number.parse()?)
 }
 
+// Whether a file is the answer of a sample, or what a program prints for one, which printed.rs compares.
+fn is_beside_a_sample(path: &Path) -> bool {
+    ["answer", "printed"].contains(&extension_of(path)) && path.with_extension("").is_file()
+}
+
 // Compares all samples of a directory, prints a line for each that differs, and gives how many they are.
 fn compare_all(directory: &Path) -> Result<usize, Box<dyn Error>> {
     let entries: Result<Vec<_>, _> = std::fs::read_dir(directory)?.collect();
     let mut paths: Vec<PathBuf> = entries?.iter().map(|entry| entry.path()).collect();
-    paths.retain(|path| extension_of(path) != "answer" || !path.with_extension("").is_file());
+    paths.retain(|path| !is_beside_a_sample(path));
     paths.sort();
     let mut numbers = Vec::new();
     for path in &paths {
