@@ -2,14 +2,17 @@
 -- ends as reading all of them does. The measure is how many codes are left.
 -- Assumes nothing.
 use mathlib.Core.Path.{_≡_, sym, _∙_}
-use Prim.Native.Nat.{_+_, _-_, suc, _≤_}
+use Prim.Native.Nat.{_+_, _-_, _≤_}
 use native.Mathlib.Omega.{arith}
 use native.Mathlib.Nat.{add-zero, sub-zero}
+use native.Mathlib.Numerals.{add-one-le}
 use borrow.Author.Needs.{needs}
-use lib.ListN.{length, length-take, length-drop}
+use borrow.Author.Count.{falls}
+use lib.ListN.{length}
 use Rattle.numbers.specs.Reading.{partsEnd}
 use Rattle.numbers.proofs.Bounds.{within-used}
 use Rattle.numbers.proofs.Parts.{parts-more, parts-refused, parts-none}
+use Rattle.items.proofs.Reading.{one-less, part-within}
 use Rattle.moves.specs.MoveFile.{codesEnd}
 use Rattle.moves.proofs.Steps.{codePart, code-end}
 use Rattle.moves.proofs.codes_end.Statement.{statement}
@@ -47,20 +50,20 @@ add-i : tie.Need-add-i Inv-loop μ-loop
 add-i c = search needs
 
 loop-less : tie.Need-loop-less Inv-loop μ-loop
-loop-less c = search needs
+loop-less c = falls _ _ (c .before .before .before .before .before .loop-test .taken)
 
 loop-again : tie.Need-loop-again Inv-loop μ-loop
 loop-again c =
+    let more = c .before .before .before .before .before .loop-test .taken in
     let turn = c .before .before .before .before .before .before .loop in
     let args = c .before .before .before .before .before .before .before .before .args in
     let e = c .before .before .before .before .code .ensures in
     let is = c .before .before .r .given .1 in
-    let used = within-used _ _ _ (turn .t .now) e is in
-    let end = code-end (args .last) (turn .t .now) e is in
-    let one : args .count - turn .i ≡ suc (args .count - (turn .i + 1)) = omega arith in (
-      omega arith,
-      simp (length-take, length-drop) (omega arith),
-      sym (parts-more (codePart (args .last)) (args .count - turn .i) (args .count - (turn .i + 1)) (turn .at) (turn .t .now) end one)
+    let end = code-end (args .last) (turn .t .now) e is in (
+      add-one-le more,
+      part-within (turn .t .now) (turn .at) (within-used _ _ _ (turn .t .now) e is) (turn .inv .1),
+      sym (parts-more (codePart (args .last)) (args .count - turn .i) (args .count - (turn .i + 1)) (turn .at) (turn .t .now) end
+          (one-less more))
           ∙ turn .inv .2,
     )
 
@@ -75,8 +78,8 @@ returns c =
     let turn = c .before .before .before .before .before .loop in
     let args = c .before .before .before .before .before .before .before .args in
     let end = code-end (args .last) (turn .t .now) (c .before .before .before .code .ensures) (c .before .r2 .given .1) in
-    let one : args .count - turn .i ≡ suc (args .count - suc (turn .i)) = omega arith in
-    let ends = parts-refused (codePart (args .last)) _ _ (turn .at) (turn .t .now) end one in
+    let more = c .before .before .before .before .loop-test .taken in
+    let ends = parts-refused (codePart (args .last)) _ _ (turn .at) (turn .t .now) end (one-less more) in
     rw add-zero at (sym ends ∙ turn .inv .2)
 
 cast-taken : tie.Need-cast-taken Inv-loop μ-loop

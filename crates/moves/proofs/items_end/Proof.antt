@@ -2,13 +2,16 @@
 -- ends as reading all of them does. The measure is how many items are left.
 -- Assumes nothing.
 use mathlib.Core.Path.{_≡_, sym, _∙_}
-use Prim.Native.Nat.{_+_, _-_, suc, _≤_}
+use Prim.Native.Nat.{_+_, _-_, _≤_}
 use native.Mathlib.Omega.{arith}
 use native.Mathlib.Nat.{sub-zero}
+use native.Mathlib.Numerals.{add-one-le}
 use borrow.Author.Needs.{needs}
-use lib.ListN.{length, length-take, length-drop}
+use borrow.Author.Count.{falls}
+use lib.ListN.{length}
 use Rattle.numbers.specs.Reading.{partsEnd}
 use Rattle.numbers.proofs.Parts.{parts-more, parts-refused, parts-none}
+use Rattle.items.proofs.Reading.{one-less, part-within}
 use Rattle.head.proofs.Steps.{item-ends}
 use Rattle.moves.specs.MoveFile.{itemsEnd}
 use Rattle.moves.proofs.Steps.{itemPart, item-end}
@@ -50,20 +53,20 @@ add-i : tie.Need-add-i Inv-loop μ-loop
 add-i c = search needs
 
 loop-less : tie.Need-loop-less Inv-loop μ-loop
-loop-less c = search needs
+loop-less c = falls _ _ (c .before .before .before .before .before .loop-test .taken)
 
 loop-again : tie.Need-loop-again Inv-loop μ-loop
 loop-again c =
+    let more = c .before .before .before .before .before .loop-test .taken in
     let turn = c .before .before .before .before .before .before .loop in
     let args = c .before .before .before .before .before .before .before .before .args in
     let e = c .before .before .before .before .read-item .ensures in
     let is = c .before .before .answer .given .1 in
-    let ends = item-ends (args .n) (turn .t .now) e is in
-    let end = item-end (args .n) (turn .t .now) e is in
-    let one : args .count - turn .i ≡ suc (args .count - (turn .i + 1)) = omega arith in (
-      omega arith,
-      simp (length-take, length-drop) (omega arith),
-      sym (parts-more (itemPart (args .n)) (args .count - turn .i) (args .count - (turn .i + 1)) (turn .at) (turn .t .now) end one)
+    let end = item-end (args .n) (turn .t .now) e is in (
+      add-one-le more,
+      part-within (turn .t .now) (turn .at) (item-ends (args .n) (turn .t .now) e is) (turn .inv .1),
+      sym (parts-more (itemPart (args .n)) (args .count - turn .i) (args .count - (turn .i + 1)) (turn .at) (turn .t .now) end
+          (one-less more))
           ∙ turn .inv .2,
     )
 
@@ -81,8 +84,8 @@ returns c =
     let turn = c .before .before .before .before .before .loop in
     let args = c .before .before .before .before .before .before .before .args in
     let end = item-end (args .n) (turn .t .now) (c .before .before .before .read-item .ensures) (c .before .answer2 .given .1) in
-    let one : args .count - turn .i ≡ suc (args .count - suc (turn .i)) = omega arith in
-    sym (parts-refused (itemPart (args .n)) _ _ (turn .at) (turn .t .now) end one) ∙ turn .inv .2
+    let more = c .before .before .before .before .loop-test .taken in
+    sym (parts-refused (itemPart (args .n)) _ _ (turn .at) (turn .t .now) end (one-less more)) ∙ turn .inv .2
 
 cast-taken : tie.Need-cast-taken Inv-loop μ-loop
 cast-taken c = omega arith
