@@ -7,7 +7,7 @@ mod library;
 mod mutator;
 mod numbers;
 mod plain;
-#[allow(dead_code)] // It has a second judge, for judges.rs.
+#[allow(dead_code)] // It has a second judge, for compare.rs.
 mod plain_judge;
 mod random;
 mod trial;

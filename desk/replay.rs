@@ -5,7 +5,7 @@
 mod library;
 mod numbers;
 mod plain;
-#[allow(dead_code)] // It has a second judge, for judges.rs.
+#[allow(dead_code)] // It has a second judge, for compare.rs.
 mod plain_judge;
 #[allow(dead_code)] // Only its numbers are wanted here, no choices.
 mod random;

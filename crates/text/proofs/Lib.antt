@@ -4,3 +4,4 @@ pub mod Placings
 pub mod Texts
 pub mod Logs
 pub mod Benches
+pub mod Printed
