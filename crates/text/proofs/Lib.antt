@@ -3,5 +3,3 @@ pub mod Events
 pub mod Placings
 pub mod Texts
 pub mod Logs
-pub mod Benches
-pub mod Printed

@@ -1,4 +1,3 @@
 pub mod Line
 pub mod Text
-pub mod Printed
 pub mod Steps

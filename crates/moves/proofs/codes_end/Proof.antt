@@ -12,7 +12,7 @@ use lib.ListN.{length}
 use Rattle.numbers.specs.Reading.{partsEnd}
 use Rattle.numbers.proofs.Bounds.{within-used}
 use Rattle.numbers.proofs.Parts.{parts-more, parts-refused, parts-none}
-use Rattle.items.proofs.Reading.{one-less, part-within}
+use Rattle.refusals.proofs.Lists.{one-less, part-within}
 use Rattle.moves.specs.MoveFile.{codesEnd}
 use Rattle.moves.proofs.Steps.{codePart, code-end}
 use Rattle.moves.proofs.codes_end.Statement.{statement}

@@ -11,7 +11,7 @@ use borrow.Author.Count.{falls}
 use lib.ListN.{length}
 use Rattle.numbers.specs.Reading.{partsEnd}
 use Rattle.numbers.proofs.Parts.{parts-more, parts-refused, parts-none}
-use Rattle.items.proofs.Reading.{one-less, part-within}
+use Rattle.refusals.proofs.Lists.{one-less, part-within}
 use Rattle.head.proofs.Steps.{item-ends}
 use Rattle.moves.specs.MoveFile.{itemsEnd}
 use Rattle.moves.proofs.Steps.{itemPart, item-end}

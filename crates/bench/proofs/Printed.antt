@@ -17,9 +17,10 @@ use Rattle.history.proofs.Verdicts.{judgement-earliest}
 use Rattle.moves.specs.MoveFile.{moveFileOf, afterHead, afterItems, trackOf, movesAt}
 use Rattle.placing.proofs.Told.{toldOf}
 use Rattle.runs.specs.Run.{run, outcome}
 use Rattle.text.specs.Line.{digitsIn}
-use Rattle.text.specs.Text.{eventLines, BenchText, ran}
-use Rattle.text.specs.Printed.{sixth, sixthText}
+use Rattle.text.specs.Text.{eventLines}
+use Rattle.bench.specs.Bench.{BenchText, ran}
+use Rattle.bench.specs.Printed.{sixth, sixthText}
 
 -- Its items, its one read, and the judgement of these.
 abbrev items : List (List ℕ)
