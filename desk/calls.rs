@@ -2,8 +2,7 @@
 // byte of what was lent and of the guards around it.
 
 use crate::hex::in_hex;
-use crate::numbers::{LONGEST, ROOM};
-use crate::random::Random;
+use crate::table::{number_of, place_of, LONGEST, MOST_READS, ROOM};
 use crate::{library, plain, plain_judge};
 
 // An input, and the bytes that are lent for the output.
@@ -19,7 +18,8 @@ pub struct Calls {
     pub made: &'static [(&'static str, Call)],
 }
 
-pub const MOST_READS: usize = 2_048;
+// The bytes of an entry.
+pub const ENTRY: usize = 4;
 
 pub const RUNS: Calls = Calls {
     unit: 1,
@@ -28,8 +28,8 @@ pub const RUNS: Calls = Calls {
 };
 
 pub const JUDGES: Calls = Calls {
-    unit: 4,
-    most_bytes: 4 * MOST_READS,
+    unit: ENTRY,
+    most_bytes: ENTRY * MOST_READS,
     made: &[
         ("plain", plain),
         ("plain forward", plain_forward),
@@ -42,14 +42,13 @@ pub const GUARD: usize = 29;
 
 // A judge on as many numbers as the bytes hold whole, each put into four of them, lowest first.
 fn in_bytes(judge: fn(&[u8], &mut [u32]) -> u64, log: &[u8], entries: &mut [u8]) -> u64 {
-    let mut numbers = vec![0; entries.len() / 4];
+    let mut numbers = vec![0; entries.len() / ENTRY];
     let answer = judge(log, &mut numbers);
-    let placed = if answer >> 32 == 0 {
-        answer as usize
-    } else {
-        0
+    let placed = match number_of(answer) {
+        0 => &numbers[..place_of(answer)],
+        _ => &[],
     };
-    for (entry, number) in entries.chunks_exact_mut(4).zip(&numbers[..placed]) {
+    for (entry, number) in entries.chunks_exact_mut(ENTRY).zip(placed) {
         entry.copy_from_slice(&number.to_le_bytes());
     }
     answer
@@ -63,13 +62,6 @@ fn plain_forward(log: &[u8], entries: &mut [u8]) -> u64 {
     in_bytes(plain_judge::judge_forward, log, entries)
 }
 
-// Random bytes for an output with its guards, and the same bytes with every bit turned: one that is written differs from one of the two.
-pub fn fills(random: &mut Random, room: usize) -> [Vec<u8>; 2] {
-    let fill = random.bytes(GUARD + room + GUARD);
-    let turned = fill.iter().map(|byte| !byte).collect();
-    [fill, turned]
-}
-
 // Makes a call on an output that holds this before it.
 pub fn outcome(call: Call, input: &[u8], fill: &[u8]) -> Outcome {
     let mut lent = fill.to_vec();
@@ -78,8 +70,7 @@ pub fn outcome(call: Call, input: &[u8], fill: &[u8]) -> Outcome {
 }
 
 fn answer_line((name, (answer, _)): (&str, &Outcome)) -> String {
-    let (number, place) = (answer >> 32, answer & 0xffff_ffff);
-    format!("{name}: {number} {place}")
+    format!("{name}: {} {}", number_of(*answer), place_of(*answer))
 }
 
 // Says how two outcomes differ, with all that is needed to see it again.
@@ -98,14 +89,8 @@ pub fn difference(input: &[u8], of: [(&str, &Outcome); 2]) -> String {
 }
 
 impl Calls {
-    // The answer of all to an input with so many bytes lent, or how one differs from the first.
-    pub fn agreed(&self, input: &[u8], room: usize, random: &mut Random) -> Result<u64, String> {
-        let [fill, turned] = fills(random, room);
-        self.agreed_on(input, &turned)?;
-        self.agreed_on(input, &fill)
-    }
-
-    fn agreed_on(&self, input: &[u8], fill: &[u8]) -> Result<u64, String> {
+    // The outcome of all on an output that holds this before, or how one differs from the first.
+    pub fn agreed_on(&self, input: &[u8], fill: &[u8]) -> Result<Outcome, String> {
         let (first_name, first_call) = self.made[0];
         let first = outcome(first_call, input, fill);
         for (name, call) in &self.made[1..] {
@@ -114,32 +99,16 @@ impl Calls {
                 return Err(difference(input, [(first_name, &first), (name, &other)]));
             }
         }
-        Ok(first.0)
+        Ok(first)
     }
 
     // The bytes that the output has to have, 0 where the input is refused before that is asked.
     pub fn needed(&self, input: &[u8]) -> usize {
         let (_, first_call) = self.made[0];
-        match first_call(input, &mut []) {
-            answer if answer >> 32 == ROOM => self.unit * answer as u32 as usize,
+        let answer = first_call(input, &mut []);
+        match number_of(answer) {
+            ROOM => self.unit * place_of(answer),
             _ => 0,
         }
-    }
-
-    // Compares with every number of bytes up to one unit more than needed, and gives the answer to the last.
-    pub fn in_every_room(&self, input: &[u8], random: &mut Random) -> Result<u64, String> {
-        for room in 0..self.needed(input) + self.unit {
-            self.agreed(input, room, random)?;
-        }
-        self.agreed(input, self.needed(input) + self.unit, random)
-    }
-
-    // Compares with no room, one byte too few, the exact room, one unit more, and the most that is ever needed.
-    pub fn in_some_rooms(&self, input: &[u8], random: &mut Random) -> Result<u64, String> {
-        let needed = self.needed(input);
-        for room in [0, needed.saturating_sub(1), needed, needed + self.unit] {
-            self.agreed(input, room, random)?;
-        }
-        self.agreed(input, self.most_bytes, random)
     }
 }

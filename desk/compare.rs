@@ -8,6 +8,7 @@
 //     time                 how long both take on full files
 
 mod calls;
+mod command;
 mod damage;
 mod fixed_logs;
 mod full_logs;
@@ -15,20 +16,25 @@ mod full_moves;
 mod hex;
 mod library;
 mod numbers;
+mod paths;
 mod plain;
 mod plain_judge;
 mod random;
 mod random_logs;
 mod random_moves;
+mod rooms;
 mod small;
+mod table;
 mod tally;
 mod times;
 
-use calls::{difference, fills, outcome, Calls, GUARD, JUDGES, RUNS};
+use calls::{difference, outcome, Calls, ENTRY, GUARD, JUDGES, RUNS};
 use fixed_logs::{fixed_logs, Fixed};
+use paths::paths;
 use random::Random;
 use random_logs::random_log;
 use random_moves::random_move_file;
+use rooms::fills;
 use small::Bounds;
 use std::error::Error;
 use std::ops::RangeInclusive;
@@ -114,7 +120,7 @@ fn check(seed: u64, count: usize) -> Result<String, String> {
     let mut random = Random::new(seed);
     let fixed = fixed_logs();
     for log in &fixed {
-        let [fill, turned] = fills(&mut random, 4 * log.room);
+        let [fill, turned] = fills(&mut random, ENTRY * log.room);
         check_fixed(log, &fill)?;
         check_fixed(log, &turned)?;
     }
@@ -143,20 +149,16 @@ fn compare_sample(sample: &Path, random: &mut Random) -> Result<(), Box<dyn Erro
 }
 
 fn compare_samples(directory: &str) -> Result<String, Box<dyn Error>> {
-    let (mut random, mut compared) = (Random::new(1), 0);
-    for entry in std::fs::read_dir(directory)? {
-        let path = entry?.path();
-        let extension = path.extension().unwrap_or_default();
-        if extension == "moves" || extension == "log" {
-            let found = compare_sample(&path, &mut random);
-            found.map_err(|found| format!("{}\n{found}", path.display()))?;
-            compared += 1;
-        }
+    let samples = paths(directory, &["moves", "log"])?;
+    let mut random = Random::new(1);
+    for sample in &samples {
+        let found = compare_sample(sample, &mut random);
+        found.map_err(|found| format!("{}\n{found}", sample.display()))?;
     }
-    if compared == 0 {
-        return Err(format!("{directory}: no sample").into());
+    match samples.len() {
+        0 => Err(format!("{directory}: no sample").into()),
+        compared => Ok(format!("{compared} samples, all agree")),
     }
-    Ok(format!("{compared} samples, all agree"))
 }
 
 fn compare_long() -> Result<String, String> {
@@ -178,16 +180,5 @@ fn run(arguments: &[&str]) -> Result<String, Box<dyn Error>> {
 }
 
 fn main() -> ExitCode {
-    let arguments: Vec<String> = std::env::args().skip(1).collect();
-    let arguments: Vec<&str> = arguments.iter().map(String::as_str).collect();
-    match run(&arguments) {
-        Ok(said) => {
-            println!("compare: {said}");
-            ExitCode::SUCCESS
-        }
-        Err(error) => {
-            println!("compare: {error}");
-            ExitCode::FAILURE
-        }
-    }
+    command::main_of("compare", run)
 }

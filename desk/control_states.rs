@@ -23,17 +23,16 @@ fn control_of(bits: usize) -> Control {
 }
 
 fn control_states() -> Vec<Staged> {
-    let mut states = Vec::new();
-    for writer in WRITER_STAGES {
-        for reader in READER_STAGES {
-            states.extend((0..256).map(|bits| Staged {
-                control: control_of(bits),
-                writer,
-                reader,
-            }));
-        }
-    }
-    states
+    let with_reader = |&writer| READER_STAGES.map(|reader| (writer, reader));
+    let stages = WRITER_STAGES.iter().flat_map(with_reader);
+    let with_bits = |(writer, reader)| {
+        (0..256).map(move |bits| Staged {
+            control: control_of(bits),
+            writer,
+            reader,
+        })
+    };
+    stages.flat_map(with_bits).collect()
 }
 
 // The moves that the writer may make at a stage, each with the stage after it. A store may be the last or not.
@@ -92,6 +91,19 @@ fn broken(state: &Staged) -> Option<&'static str> {
     Some(name)
 }
 
+// How many steps the state has. None of them may leave the invariant.
+fn check_steps(state: Staged) -> Result<usize, String> {
+    let states = next_states(state);
+    for next in &states {
+        if let Some(name) = broken(next) {
+            return Err(format!(
+                "control, {name}: a step leaves it\nfrom {state:?}\nto {next:?}"
+            ));
+        }
+    }
+    Ok(states.len())
+}
+
 pub fn check() -> Result<String, String> {
     let states = control_states();
     if let Some(name) = broken(&states[FRESH]) {
@@ -100,14 +112,7 @@ pub fn check() -> Result<String, String> {
     let (mut satisfying, mut steps) = (0, 0);
     for state in states.iter().filter(|state| broken(state).is_none()) {
         satisfying += 1;
-        for next in next_states(*state) {
-            steps += 1;
-            if let Some(name) = broken(&next) {
-                return Err(format!(
-                    "control, {name}: a step leaves it\nfrom {state:?}\nto {next:?}"
-                ));
-            }
-        }
+        steps += check_steps(*state)?;
     }
     let all = states.len();
     Ok(format!(

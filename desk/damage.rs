@@ -1,7 +1,8 @@
 // Damages to files, in one number or in the bytes. Nothing is assumed about the fault that one gives.
 
-use crate::numbers::{put, LONGEST};
+use crate::numbers::put;
 use crate::random::Random;
+use crate::table::LONGEST;
 
 // What a damage has to know of a file.
 pub struct File {

@@ -1,8 +1,8 @@
 // Logs written by hand, each with the answer and the entries that the rules give it.
 
 use crate::full_logs::{bytes_of, full_log, Kind};
-use crate::numbers::LONGEST;
 use crate::plain_judge::{Event, Log};
+use crate::table::LONGEST;
 
 pub struct Fixed {
     pub name: &'static str,

@@ -1,8 +1,9 @@
 // Writes logs, and makes those that are as full as the limits allow.
 
-use crate::numbers::{put, Item, LONGEST};
+use crate::numbers::{put, Item};
 use crate::plain_judge::{Event, Log};
 use crate::random::Random;
+use crate::table::LONGEST;
 use std::ops::RangeInclusive;
 
 // The numbers that a log's file has, in order.
@@ -65,15 +66,20 @@ fn events_of(kind: Kind, items: &[Item], rounds: usize) -> Vec<Event> {
     }
 }
 
+fn random_item(n: usize, words: &RangeInclusive<u32>, random: &mut Random) -> Item {
+    let mut item = [0; 8];
+    for word in &mut item[..n] {
+        *word = random.within(words);
+    }
+    item
+}
+
 // A log of the kind with such words and up to 1,024 rounds, as many as 24,576 bytes hold.
 pub fn full_log(kind: Kind, n: usize, words: &RangeInclusive<u32>) -> Vec<u8> {
     let mut random = Random::new(1);
-    let mut items = vec![[0; 8]; 1_025];
-    for item in &mut items {
-        for word in &mut item[..n] {
-            *word = random.within(words);
-        }
-    }
+    let items: Vec<Item> = (0..=1_024)
+        .map(|_| random_item(n, words, &mut random))
+        .collect();
     let log_with = |rounds| {
         let (initial, events) = (items[0], events_of(kind, &items, rounds));
         bytes_of(&Log { n, initial, events })

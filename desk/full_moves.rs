@@ -2,6 +2,7 @@
 
 use crate::numbers::put;
 use crate::random::Random;
+use crate::table::{MOST_ITEMS, MOST_MOVES};
 use std::ops::RangeInclusive;
 
 fn put_words(file: &mut Vec<u8>, count: usize, words: &RangeInclusive<u32>, random: &mut Random) {
@@ -15,11 +16,11 @@ pub fn full_move_file(n: usize, words: &RangeInclusive<u32>) -> Vec<u8> {
     let mut random = Random::new(1);
     let mut file = vec![n as u8];
     put_words(&mut file, n, words, &mut random);
-    put(&mut file, 255);
-    put_words(&mut file, 255 * n, words, &mut random);
-    put(&mut file, 4_096);
-    let mut writer_moves = 255 * (n + 4);
-    for _ in 0..4_096 {
+    put(&mut file, MOST_ITEMS as u32);
+    put_words(&mut file, MOST_ITEMS * n, words, &mut random);
+    put(&mut file, MOST_MOVES as u32);
+    let mut writer_moves = MOST_ITEMS * (n + 4);
+    for _ in 0..MOST_MOVES {
         let writer = random.one_in(2) && writer_moves > 0;
         writer_moves -= usize::from(writer);
         file.push(u8::from(!writer));

@@ -3,27 +3,28 @@
 
 #![no_main]
 
+mod calls;
+mod hex;
 mod library;
 mod mutator;
 mod numbers;
 mod plain;
-#[allow(dead_code)] // It has a second judge, for compare.rs.
+#[allow(dead_code)] // The width of a log that was read is for other programs.
 mod plain_judge;
+#[allow(dead_code)] // Some of its choices are for other programs.
 mod random;
+mod table;
 mod trial;
 
 use random::Random;
 use std::sync::atomic::{AtomicU64, Ordering::Relaxed};
 use std::sync::OnceLock;
-use trial::{call_named, number_of, Call, CHOICE};
+use table::{number_of, NAMES};
+use trial::{call_named, Call, CHOICE};
 
 static CALL: OnceLock<&Call> = OnceLock::new();
 
 static ANSWERS: [AtomicU64; 12] = [const { AtomicU64::new(0) }; 12];
-const NAMES: [&str; 12] = [
-    "accepted", "LONG", "CUT", "FORM", "WIDTH", "COUNT", "CODE", "TRAILING", "ITEMS", "TURN",
-    "ROOM", "NO PLACE",
-];
 
 extern "C" {
     fn atexit(function: extern "C" fn()) -> i32;

@@ -7,9 +7,8 @@ use crate::search::in_rows;
 use crate::tagged::{Event, State};
 use crate::tagged_logs::{bytes_of, item_of, put_all, Word};
 
-// A list longer than this cannot be tried to the end, nor one with so many reads.
-pub const MOST_MOVES: usize = 40;
-const MOST_READS: usize = MOST_MOVES;
+// No list that has more moves can be tried to the end. None has so many reads.
+pub const LONGEST_LIST: usize = 40;
 
 // The items that are written: all distinct, or all equal to the initial one.
 #[derive(Clone, Copy)]
@@ -118,7 +117,7 @@ impl Lists {
     // The judge must place every read.
     fn check_placing(&mut self, log: &[u8]) -> Result<(), String> {
         let numbers = true_numbers(&self.events);
-        let mut entries = [0; 4 * MOST_READS];
+        let mut entries = [0; 4 * LONGEST_LIST];
         let answer = library::judge(log, &mut entries);
         if answer != numbers.len() as u64 {
             return Err(format!("the judge answers {answer:x} to {log:x?}"));

@@ -2,6 +2,7 @@
 
 use crate::numbers::put;
 use crate::random::Random;
+use crate::table::{MOST_ITEMS, MOST_MOVES};
 
 // Limits, their neighbours, and words of one to five bytes.
 const NUMBERS: [u32; 20] = [
@@ -29,8 +30,6 @@ const NUMBERS: [u32; 20] = [
 
 const MOST_CHANGES: usize = 3;
 const SHORT_RANGE: usize = 24;
-const MOST_ITEMS: usize = 255;
-const MOST_MOVES: usize = 4_096;
 
 // The numbers of a file, whatever their form; of one that is too great the upper bits are lost.
 fn numbers_of(file: &[u8]) -> Vec<u32> {
@@ -108,35 +107,64 @@ pub fn mended_moves(numbers: &[u32], random: &mut Random) -> Vec<u32> {
     to
 }
 
-// A log with a true count. Mostly events out of turn are dropped, and some reads get the item of a write shortly before.
+// What is known of a log while its events are mended.
+struct Mender {
+    n: usize,
+    lawful: bool,
+    // The initial item, and those of the writes.
+    writes: Vec<Vec<u32>>,
+    // Whether a write is open, and whether a read is.
+    open: [bool; 2],
+}
+
+impl Mender {
+    // The words behind a code, as many as it wants.
+    fn item(&self, code: u32, from: &mut dyn Iterator<Item = u32>) -> Vec<u32> {
+        let words = if matches!(code, 0 | 3) { self.n } else { 0 };
+        let mut item: Vec<u32> = from.take(words).collect();
+        item.resize(words, 0);
+        item
+    }
+
+    // The numbers of one event. Where all is to be lawful, an event out of turn has none, and some reads get the item of a write shortly
+    // before.
+    fn event(&mut self, code: u32, mut item: Vec<u32>, random: &mut Random) -> Vec<u32> {
+        let (side, returns) = (code as usize / 2, code % 2 == 1);
+        if self.lawful && self.open[side] != returns {
+            return Vec::new();
+        }
+        self.open[side] = !returns;
+        if code == 0 {
+            self.writes.push(item.clone());
+        } else if self.lawful && code == 3 && random.one_in(2) {
+            let newest = self.writes.len() - 1;
+            item = self.writes[newest - random.below(self.writes.len().min(3))].clone();
+        }
+        item.insert(0, code);
+        item
+    }
+}
+
+// A log with a true count. Mostly it is made lawful.
 pub fn mended_log(numbers: &[u32], random: &mut Random) -> Vec<u32> {
     let lawful = !random.one_in(3);
     let mut from = numbers.iter().copied();
     let mut to = Vec::with_capacity(numbers.len() + 16);
     let n = mend_head(&mut from, &mut to);
-    let mut writes = vec![to[1..].to_vec()];
-    let (mut open, mut count) = ([false; 2], 0);
+    let mut mender = Mender {
+        n,
+        lawful,
+        writes: vec![to[1..].to_vec()],
+        open: [false; 2],
+    };
+    let mut count = 0;
     from.next();
     to.push(0);
     while let Some(code) = from.next() {
-        let (side, returns) = (code as usize % 4 / 2, code % 2 == 1);
-        let has_item = (side == 1) == returns;
-        let words = if has_item { n } else { 0 };
-        let mut item: Vec<u32> = from.by_ref().take(words).collect();
-        item.resize(words, 0);
-        if lawful && open[side] != returns {
-            continue;
-        }
-        open[side] = !returns;
-        if side == 0 && has_item {
-            writes.push(item.clone());
-        } else if lawful && has_item && random.one_in(2) {
-            let newest = writes.len() - 1;
-            item = writes[newest - random.below(writes.len().min(3))].clone();
-        }
-        to.push(code % 4);
-        to.extend(item);
-        count += 1;
+        let item = mender.item(code % 4, &mut from);
+        let event = mender.event(code % 4, item, random);
+        count += u32::from(!event.is_empty());
+        to.extend(event);
     }
     to[1 + n] = count;
     to

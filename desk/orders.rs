@@ -5,6 +5,7 @@
 // target/desk/orders wrong, which finds out wrong procedures; target/desk/orders lists N MOVES, which has the library run and judge every
 // list of MOVES moves; or target/desk/orders moves N ROW .., which shows the moves of rows such as w5 and r2 one by one.
 
+mod command;
 mod control_states;
 mod invariants;
 mod library;
@@ -16,11 +17,12 @@ mod plain_judge;
 mod procedures;
 mod search;
 mod stages;
+mod table;
 mod tagged;
 mod tagged_logs;
 mod wrong_orders;
 
-use move_lists::MOST_MOVES;
+use move_lists::LONGEST_LIST;
 use procedures::SIMPSON;
 use search::{in_rows, search};
 use std::error::Error;
@@ -35,8 +37,8 @@ fn width(argument: &str) -> Result<usize, Box<dyn Error>> {
 
 fn length(argument: &str) -> Result<usize, Box<dyn Error>> {
     match argument.parse()? {
-        moves if moves <= MOST_MOVES => Ok(moves),
-        _ => Err(format!("MOVES is at most {MOST_MOVES}").into()),
+        moves if moves <= LONGEST_LIST => Ok(moves),
+        _ => Err(format!("MOVES is at most {LONGEST_LIST}").into()),
     }
 }
 
@@ -71,16 +73,5 @@ fn run(arguments: &[&str]) -> Result<String, Box<dyn Error>> {
 }
 
 fn main() -> ExitCode {
-    let arguments: Vec<String> = std::env::args().skip(1).collect();
-    let arguments: Vec<&str> = arguments.iter().map(String::as_str).collect();
-    match run(&arguments) {
-        Ok(said) => {
-            println!("orders: {said}");
-            ExitCode::SUCCESS
-        }
-        Err(error) => {
-            println!("orders: {error}");
-            ExitCode::FAILURE
-        }
-    }
+    command::main_of("orders", run)
 }

@@ -7,11 +7,13 @@
 // Both programs get every file. What bench prints for NAME.moves may be stored in NAME.moves.printed, and what judge prints for NAME.log in
 // NAME.log.printed.
 
+mod command;
 mod damage;
 mod full_logs;
 mod full_moves;
 mod hex;
 mod numbers;
+mod paths;
 // Of these two the call with a lent output and the other judge are for other programs.
 #[allow(dead_code)]
 mod plain;
@@ -22,10 +24,11 @@ mod programs;
 mod random;
 mod random_logs;
 mod random_moves;
+mod table;
 
 use full_logs::{full_log, Kind};
 use full_moves::full_move_file;
-use numbers::LONGEST;
+use paths::paths;
 use programs::{programs, Program};
 use random::Random;
 use random_logs::random_log;
@@ -34,6 +37,7 @@ use std::error::Error;
 use std::ops::RangeInclusive;
 use std::path::{Path, PathBuf};
 use std::process::ExitCode;
+use table::LONGEST;
 
 // An input in pieces comes in about so many.
 const PIECES: usize = 40;
@@ -98,18 +102,6 @@ fn check(programs: &mut Programs, seed: u64, count: usize) -> Result<String, Box
     ))
 }
 
-// The paths of a directory that have one of these endings, in order.
-fn paths(directory: &str, extensions: &[&str]) -> std::io::Result<Vec<PathBuf>> {
-    let entries: Result<Vec<_>, _> = std::fs::read_dir(directory)?.collect();
-    let mut paths: Vec<PathBuf> = entries?.iter().map(|entry| entry.path()).collect();
-    paths.retain(|path| {
-        let extension = path.extension().unwrap_or_default();
-        extensions.iter().any(|&wanted| extension == wanted)
-    });
-    paths.sort();
-    Ok(paths)
-}
-
 fn compare_sample(programs: &mut Programs, sample: &Path) -> Result<(), Box<dyn Error>> {
     compare(programs, &std::fs::read(sample)?)
 }
@@ -166,16 +158,5 @@ fn run(arguments: &[&str]) -> Result<String, Box<dyn Error>> {
 }
 
 fn main() -> ExitCode {
-    let arguments: Vec<String> = std::env::args().skip(1).collect();
-    let arguments: Vec<&str> = arguments.iter().map(String::as_str).collect();
-    match run(&arguments) {
-        Ok(said) => {
-            println!("printed: {said}");
-            ExitCode::SUCCESS
-        }
-        Err(error) => {
-            println!("printed: {error}");
-            ExitCode::FAILURE
-        }
-    }
+    command::main_of("printed", run)
 }

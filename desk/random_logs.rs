@@ -5,6 +5,7 @@ use crate::full_logs::numbers_of;
 use crate::numbers::Item;
 use crate::plain_judge::{Event, Log};
 use crate::random::Random;
+use crate::table::MOST_EVENTS;
 
 // Words of one to five bytes; the last three have five.
 const WORDS: [u32; 12] = [
@@ -110,7 +111,7 @@ fn random_count(random: &mut Random) -> usize {
     match random.below(256) {
         0..=47 => random.below(14),
         48..=63 => 60 + random.below(140),
-        64..=67 => 4_096 - random.one_of(&[0, 1]) * random.below(3_800),
+        64..=67 => MOST_EVENTS - random.one_of(&[0, 1]) * random.below(3_800),
         _ => 14 + random.below(46),
     }
 }
@@ -182,7 +183,7 @@ fn file_of(log: &Log) -> File {
     }
     File {
         numbers: numbers_of(log),
-        counts: vec![(log.n + 1, 4_096)],
+        counts: vec![(log.n + 1, MOST_EVENTS as u32)],
         codes,
         last_code: 3,
     }

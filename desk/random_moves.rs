@@ -2,9 +2,7 @@
 
 use crate::damage::{may_be_damaged, File};
 use crate::random::Random;
-
-const MOST_ITEMS: usize = 255;
-const MOST_MOVES: usize = 4_096;
+use crate::table::{MOST_ITEMS, MOST_MOVES};
 
 const WRITER: u32 = 0;
 const READER: u32 = 1;

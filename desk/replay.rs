@@ -2,13 +2,17 @@
 // Built by: rustc -O desk/replay.rs -L target/staticlib -l static=host --out-dir target/desk
 // Run by: target/desk/replay run desk/corpus/run, or target/desk/replay judge desk/corpus/judge.
 
+mod calls;
+mod command;
+mod hex;
 mod library;
 mod numbers;
 mod plain;
-#[allow(dead_code)] // It has a second judge, for compare.rs.
+#[allow(dead_code)] // The width of a log that was read is for other programs.
 mod plain_judge;
-#[allow(dead_code)] // Only its numbers are wanted here, no choices.
+#[allow(dead_code)] // Only its bytes are wanted here, no choices.
 mod random;
+mod table;
 mod trial;
 
 use std::error::Error;
@@ -36,21 +40,10 @@ fn run(arguments: &[&str]) -> Result<String, Box<dyn Error>> {
     let files = replay(call_named(name).ok_or(wanted)?, directory)?;
     match files {
         0 => Err(format!("{directory}: no file").into()),
-        _ => Ok(format!("{files} inputs of {name} tried, the two agree")),
+        _ => Ok(format!("{files} inputs of {name} tried, all agree")),
     }
 }
 
 fn main() -> ExitCode {
-    let arguments: Vec<String> = std::env::args().skip(1).collect();
-    let arguments: Vec<&str> = arguments.iter().map(String::as_str).collect();
-    match run(&arguments) {
-        Ok(said) => {
-            println!("replay: {said}");
-            ExitCode::SUCCESS
-        }
-        Err(error) => {
-            println!("replay: {error}");
-            ExitCode::FAILURE
-        }
-    }
+    command::main_of("replay", run)
 }

@@ -6,6 +6,8 @@
 // NAME.log.answer) has a line `NUMBER PLACE` of the refusal table. Where something is written a line follows: the bytes of a move file's
 // log in hex, or a log's placing in decimal; `fnv1a` and the hash where these are above 64 bytes, four bytes an entry. A first line
 // `room N` lends N bytes for the log, or N entries for the placing; without it 24,576 bytes or 2,048 entries are lent.
+//
+// It is also the example of both calls in Rust, and uses no other file, so that one can start from it.
 
 use std::error::Error;
 use std::path::{Path, PathBuf};

@@ -4,6 +4,7 @@ use crate::calls::{Calls, JUDGES, RUNS};
 use crate::numbers::put;
 use crate::plain;
 use crate::random::Random;
+use crate::table::{number_of, TURN};
 
 // How far each part goes.
 pub struct Bounds {
@@ -22,8 +23,6 @@ const WORDS: [[u32; 2]; 3] = [[1, 2], [7, 300], [u32::MAX, 8]];
 
 // What may come as an event of a log that has width 1 and initial item 0.
 const EVENTS: [&[u8]; 7] = [&[0, 7], &[0, 8], &[1], &[2], &[3, 0], &[3, 7], &[3, 8]];
-
-const TURN: u64 = 9;
 
 fn string(length: u32, number: u32) -> Vec<u8> {
     let digit = |place| number / 7u32.pow(place) % 7;
@@ -104,7 +103,7 @@ fn compare_lists(
     let mut longer = Vec::new();
     for events in lists {
         let log = [&[1, 0, count], &events[..]].concat();
-        if JUDGES.in_every_room(&log, random)? >> 32 != TURN {
+        if number_of(JUDGES.in_every_room(&log, random)?) != TURN {
             longer.extend(EVENTS.iter().map(|event| [events, *event].concat()));
         }
     }

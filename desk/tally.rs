@@ -3,11 +3,7 @@
 use crate::numbers::Item;
 use crate::plain::{self, MoveFile};
 use crate::plain_judge::{self, Event, Log};
-
-const NAMES: [&str; 12] = [
-    "accepted", "LONG", "CUT", "FORM", "WIDTH", "COUNT", "CODE", "TRAILING", "ITEMS", "TURN",
-    "ROOM", "NO PLACE",
-];
+use crate::table::{number_of, MOST_ITEMS, MOST_MOVES, NAMES};
 
 // The bars hold from so many files on.
 const ENOUGH_FILES: usize = 2_000;
@@ -39,9 +35,9 @@ fn classes_of_moves(bytes: &[u8]) -> Vec<Class> {
     let both_open = of_writer % (file.n + 4) > 0 && of_reader % (file.n + 3) > 0;
     vec![
         class("leftover items", 20, has_leftovers(&file, of_writer)),
-        class("255 items", 50, file.items.len() == 255),
+        class("255 items", 50, file.items.len() == MOST_ITEMS),
         class("a word of five bytes", 10, has_five_bytes(&file.items)),
-        class("4,096 moves", 200, file.moves.len() == 4_096),
+        class("4,096 moves", 200, file.moves.len() == MOST_MOVES),
         class("five writes", 20, of_writer / (file.n + 4) >= 5),
         class("five reads", 20, of_reader / (file.n + 3) >= 5),
         class("both calls open at the end", 10, both_open),
@@ -113,7 +109,7 @@ impl Tally {
     }
 
     pub fn add(&mut self, file: &[u8], answer: u64) {
-        let number = (answer >> 32) as usize;
+        let number = number_of(answer) as usize;
         self.files += 1;
         self.answers[number] += 1;
         if number == 0 {
@@ -132,15 +128,23 @@ impl Tally {
         }
     }
 
-    pub fn print(&self) {
-        println!("{} {}", self.files, self.name);
+    fn print_answers(&self) {
         for &number in self.numbers {
             println!("{number:2} {:8} {:7}", NAMES[number], self.answers[number]);
         }
-        println!("accepted, of width 1 to 8: {:?}", &self.widths[1..]);
+    }
+
+    fn print_classes(&self) {
         for (name, _, count) in &self.classes {
             println!("accepted, with {name}: {count}");
         }
+    }
+
+    pub fn print(&self) {
+        println!("{} {}", self.files, self.name);
+        self.print_answers();
+        println!("accepted, of width 1 to 8: {:?}", &self.widths[1..]);
+        self.print_classes();
     }
 
     // Fails where an answer, a width or a class comes too seldom.

@@ -1,13 +1,13 @@
 // Times both calls of the library beside plain Rust, on full files and in interleaved rounds.
 
-use crate::calls::{JUDGES, MOST_READS, RUNS};
+use crate::calls::{ENTRY, JUDGES, RUNS};
 use crate::full_logs::{full_log, Kind};
 use crate::full_moves::full_move_file;
 use crate::library;
-use crate::numbers::LONGEST;
 use crate::plain;
 use crate::plain_judge::judge_forward;
 use crate::random::Random;
+use crate::table::{LONGEST, MOST_READS};
 use std::hint::black_box;
 use std::ops::RangeInclusive;
 use std::os::raw::c_long;
@@ -81,7 +81,7 @@ fn run_columns(file: &[u8]) -> String {
 }
 
 fn judge_columns(log: &[u8]) -> String {
-    let (mut numbers, mut bytes) = (vec![0; MOST_READS], vec![0; 4 * MOST_READS]);
+    let (mut numbers, mut bytes) = (vec![0; MOST_READS], vec![0; ENTRY * MOST_READS]);
     columns(
         || judge_forward(black_box(log), black_box(&mut numbers)),
         || library::judge(black_box(log), black_box(&mut bytes)),

@@ -3,18 +3,16 @@
 use crate::invariants::check_read;
 use crate::library;
 use crate::log_lines::{events_line, items_line};
-use crate::numbers::refused;
 use crate::plain_judge;
 use crate::procedures::{Outline, Procedures, Side, WRONG};
 use crate::search::{in_rows, search, Found, Reached};
+use crate::table::{refused, MOST_READS, NO_PLACE};
 use crate::tagged::{both_at_words, both_occupy, Event, State};
 use crate::tagged_logs::bytes_of;
 
 // A list that calls more writes than this is longer than any that is found: six writes alone take 30 moves or more.
 const WRITES: u8 = 6;
 const WIDTHS: [usize; 2] = [1, 2];
-const MOST_READS: usize = 64;
-const NO_PLACE: u64 = 11;
 
 // Each write has its number for words, so all items are distinct.
 fn word(number: u8, _place: usize) -> u32 {
