@@ -1,8 +1,8 @@
 /*
  * Makes both calls on every sample with an input and an output that lie at the edge of a page that cannot be touched, so that a byte
  * read or written outside what was lent ends the program. Answer and output are compared with those of an ordinary buffer.
- * Built by: cc -std=c99 desk/edges.c target/staticlib/libhost.a -o target/desk/edges
- * Run by: target/desk/edges samples
+ * Built by: cc -std=c99 desk/edges.c target/staticlib/libhost.a -o target/edges
+ * Run by: target/edges samples
  */
 #define _DEFAULT_SOURCE /* for MAP_ANONYMOUS */
 #include "kantsufel.h"
@@ -145,13 +145,26 @@ static void compare_at(const struct trial *trial, enum edge in_edge, enum edge o
     }
 }
 
+/* Makes the call with the output at each edge. */
+static void compare_outputs(const struct trial *trial, enum edge in_edge)
+{
+    for (enum edge out_edge = AT_START; out_edge < EDGES; out_edge++) {
+        compare_at(trial, in_edge, out_edge);
+    }
+}
+
 static void compare_at_edges(struct trial trial)
 {
     trial.answer = answer_in_ordinary(&trial);
     for (enum edge in_edge = AT_START; in_edge < EDGES; in_edge++) {
-        for (enum edge out_edge = AT_START; out_edge < EDGES; out_edge++) {
-            compare_at(&trial, in_edge, out_edge);
-        }
+        compare_outputs(&trial, in_edge);
+    }
+}
+
+static void compare_fills(const struct call *call, size_t room)
+{
+    for (size_t i = 0; i < sizeof fills; i++) {
+        compare_at_edges((struct trial){call, room, fills[i], 0});
     }
 }
 
@@ -161,9 +174,7 @@ static void compare_rooms(const struct call *call)
     size_t needed = written(call, answer_in_ordinary(&(struct trial){call, call->most, fills[0], 0}));
     size_t rooms[] = {0, needed > 0 ? needed - 1 : 0, needed, needed + 1, call->most};
     for (size_t i = 0; i < sizeof rooms / sizeof rooms[0]; i++) {
-        for (size_t k = 0; k < sizeof fills; k++) {
-            compare_at_edges((struct trial){call, rooms[i], fills[k], 0});
-        }
+        compare_fills(call, rooms[i]);
     }
 }
 

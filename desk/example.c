@@ -1,7 +1,7 @@
 /*
  * An example of both calls, to start from: two move files are run and their logs judged, and then four calls are refused.
- * Built by: cc -std=c99 desk/example.c target/staticlib/libhost.a -o target/desk/example
- * Run by: target/desk/example, which prints desk/example.stdout. Its exit status is 0 only if every answer and every output is as expected.
+ * Built by: cc -std=c99 desk/example.c target/staticlib/libhost.a -o target/example
+ * Run by: target/example, which prints desk/example.stdout. Its exit status is 0 only if every answer and every output is as expected.
  */
 #include "kantsufel.h"
 
@@ -146,13 +146,18 @@ static bool is_refused(const struct refusal *refusal)
     return is_answer(answer, refusal->number, refusal->place) && is_filled(log_bytes, sizeof log_bytes);
 }
 
-static bool show_all(void)
+static bool tell_all(void)
 {
     for (size_t i = 0; i < sizeof stories / sizeof stories[0]; i++) {
         if (!tell(&stories[i])) {
             return false;
         }
     }
+    return true;
+}
+
+static bool refuse_all(void)
+{
     printf("-- refusals, which leave the output as it was\n");
     for (size_t i = 0; i < sizeof refusals / sizeof refusals[0]; i++) {
         if (!is_refused(&refusals[i])) {
@@ -164,7 +169,7 @@ static bool show_all(void)
 
 int main(void)
 {
-    bool expected = show_all();
+    bool expected = tell_all() && refuse_all();
     puts(expected ? "all as expected" : "not as expected");
     return expected && fflush(stdout) == 0 && !ferror(stdout) ? 0 : 1;
 }

@@ -1,5 +1,5 @@
 /*
- * Kantsufel, a bench for the four slots of Simpson's mechanism: the calls for a program in C or C++, which links libhost.a.
+ * Kantsufel, a bench for the four slots of Simpson's mechanism: the calls for a program in C99 or C++, which links libhost.a.
  *
  *   kantsufel_run    runs a move file and writes the log of what was called and returned
  *   kantsufel_judge  judges a log and writes at which write each finished read is placed

@@ -1,8 +1,8 @@
 /*
  * Measures how much stack the two calls take: makes both on each file, in a thread whose stack was filled, and looks how far down the
  * fill is gone. It must not be more than the header says.
- * Built by: cc -std=c99 -pthread -Wl,-z,now desk/stack.c target/staticlib/libhost.a -o target/desk/stack
- * Run by: target/desk/stack FILE...
+ * Built by: cc -std=c99 -pthread -Wl,-z,now desk/stack.c target/staticlib/libhost.a -o target/stack
+ * Run by: target/stack FILE...
  */
 #define _POSIX_C_SOURCE 200809L /* for pthread_attr_setstack and posix_memalign */
 #include "kantsufel.h"
@@ -77,20 +77,30 @@ static void read_file(const char *path)
     }
 }
 
+/* Raises the most that a call took by what it takes on the file. */
+static void raise_most(size_t call, size_t *most)
+{
+    for (size_t i = 0; i < sizeof fills; i++) {
+        size_t taken = taken_by(call, fills[i]);
+        *most = taken > *most ? taken : *most;
+    }
+}
+
 int main(int count, char **arguments)
 {
     size_t most[] = {0, 0};
     void *pages = NULL;
-    if (count < 2 || posix_memalign(&pages, PAGE, STACK_BYTES) != 0) {
+    if (count < 2) {
         fail("files are wanted as arguments");
+    }
+    if (posix_memalign(&pages, PAGE, STACK_BYTES) != 0) {
+        fail("no memory for a stack");
     }
     stack = pages;
     for (int i = 1; i < count; i++) {
         read_file(arguments[i]);
-        for (size_t k = 0; k < 2 * sizeof fills; k++) {
-            size_t taken = taken_by(k / 2, fills[k % 2]);
-            most[k / 2] = taken > most[k / 2] ? taken : most[k / 2];
-        }
+        raise_most(0, &most[0]);
+        raise_most(1, &most[1]);
     }
     free(pages);
     printf("stack: a run took at most %zu bytes and the judge %zu, on %d files; the header says %d\n", most[0], most[1], count - 1,
