@@ -3,3 +3,4 @@ pub mod Events
 pub mod Placings
 pub mod Texts
 pub mod Logs
+pub mod Front

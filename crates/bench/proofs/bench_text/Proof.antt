@@ -26,7 +26,8 @@ answer-text-requires c κs = search needs
 
 returns : tie.Need-returns
 returns c =
-    text-stopped _ (λ i. omega (arith, c .before .before .before .before .before .before .before .shared-slice-known .given i)) (c .before .before .before .before .before .run .ensures)
+    let told = c .before .before .before .before .before in
+    text-stopped _ (λ i. omega (arith, told .before .before .shared-slice-known .given i)) (told .run .ensures)
     (c .before .before .enum-told .given .1) (c .answer-text .ensures)
 
 -- The move file's bytes, where its run was accepted.
