@@ -4,9 +4,10 @@ use Prim.Native.Nat.{ℕ}
 use mathlib.Core.Path.{refl}
 use mathlib.Core.List.{List, [], _∷_}
 use Rattle.refusals.specs.declared.Answer.the-variants.{Accepted}
+use Rattle.words.specs.Words.{eight}
 use Rattle.numbers.specs.Number.{bytesIn}
 use Rattle.numbers.specs.Reading.{bytesOfAll}
-use Rattle.items.specs.Item.{eight, allBytes}
+use Rattle.items.specs.Item.{allBytes}
 use Rattle.control.specs.Simpson.{simpson, eachWord}
 use Rattle.control.specs.Step.{sound, step}
 use Rattle.machine.specs.Machine.{writerAfter, readerAfter, inAllFour, fresh}

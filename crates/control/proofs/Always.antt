@@ -9,8 +9,8 @@ use lib.Dec.{ltb, eqb}
 use borrow.Table.Steps.{cases}
 use borrow.Author.Tests.{lt-ltb, ltb-true, eqb-false}
 use Rattle.refusals.specs.declared.Answer.the-variants.{Accepted}
-use Rattle.numbers.proofs.Bounds.{and-both}
-use Rattle.items.specs.Item.{isWidth}
+use Rattle.words.specs.Words.{isWidth}
+use Rattle.words.proofs.Bounds.{and-both}
 use Rattle.control.specs.declared.Control.{Control}
 use Rattle.control.specs.Simpson.{moves, Side, Writer, Reader, Procedures}
 use Rattle.control.specs.Step.{counted, sound, refused, step}

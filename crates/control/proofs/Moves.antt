@@ -7,8 +7,8 @@ use mathlib.Core.Bool.{true, not}
 use mathlib.Core.List.{List, [], _∷_, _++_}
 use lib.ListN.{getD}
 use borrow.Table.Steps.{cases}
-use Rattle.numbers.proofs.Bounds.{between-true}
-use Rattle.items.specs.Item.{isWidth}
+use Rattle.words.specs.Words.{isWidth}
+use Rattle.words.proofs.Bounds.{between-true}
 use Rattle.control.specs.declared.Bits.{Bits}
 use Rattle.control.specs.declared.Core.{Core}
 use Rattle.control.specs.declared.Control.{Control}

@@ -7,7 +7,7 @@ use mathlib.Core.Logic.{_↔_}
 use mathlib.Core.Bool.{true, _&&_}
 use lib.Dec.{ltb}
 use borrow.Author.Tests.{lt-ltb, ltb-true}
-use Rattle.numbers.proofs.Bounds.{and-both}
+use Rattle.words.proofs.Bounds.{and-both}
 use Rattle.control.specs.declared.Control.{Control}
 use Rattle.control.specs.Simpson.{Side, Writer, Reader, simpson}
 use Rattle.control.specs.Step.{occupies}

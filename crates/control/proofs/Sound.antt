@@ -8,8 +8,8 @@ use mathlib.Core.Bool.{Bool, true, false, not, _&&_}
 use lib.Dec.{ltb}
 use borrow.Author.Tests.{lt-ltb, le-ltb, ltb-true}
 use Rattle.refusals.proofs.Apart.{apart}
-use Rattle.numbers.proofs.Bounds.{between-in, between-true, and-both}
-use Rattle.items.specs.Item.{isWidth}
+use Rattle.words.specs.Words.{isWidth}
+use Rattle.words.proofs.Bounds.{between-in, between-true, and-both}
 use Rattle.control.specs.declared.Control.{Control}
 use Rattle.control.specs.Simpson.{simpson}
 use Rattle.control.specs.Step.{sound}

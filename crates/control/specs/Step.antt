@@ -5,7 +5,7 @@ use lib.ListN.{getD, length}
 use lib.Dec.{ltb, eqb}
 use Rattle.refusals.specs.declared.Fault.the-variants.{State}
 use Rattle.refusals.specs.declared.Answer.the-variants.{Accepted, Refused}
-use Rattle.items.specs.Item.{isWidth}
+use Rattle.words.specs.Words.{isWidth}
 use Rattle.control.specs.declared.Bits.{Bits}
 use Rattle.control.specs.declared.Core.{Core}
 use Rattle.control.specs.declared.Control.{Control}

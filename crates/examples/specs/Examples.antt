@@ -7,9 +7,9 @@ use Rattle.refusals.specs.declared.Fault.{Fault}
 use Rattle.refusals.specs.declared.Fault.the-variants.{Cut, Form, Turn, NoPlace}
 use Rattle.refusals.specs.declared.Answer.{Answer}
 use Rattle.refusals.specs.declared.Answer.the-variants.{Accepted, Refused}
+use Rattle.words.specs.Words.{eight}
 use Rattle.numbers.specs.declared.Num.the-variants.{Value}
 use Rattle.numbers.specs.Number.{numberOf, answerOf, bytesOf}
-use Rattle.items.specs.Item.{eight}
 use Rattle.history.specs.Event.{Event, CW, RW, CR, RR}
 use Rattle.log.specs.Log.{logBytes}
 use Rattle.placing.specs.Judgement.{Judges}

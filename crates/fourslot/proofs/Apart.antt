@@ -9,8 +9,8 @@ use mathlib.Core.List.{List}
 use lib.Dec.{eqb}
 use borrow.Table.Steps.{cases}
 use Rattle.refusals.proofs.Apart.{apart}
-use Rattle.numbers.proofs.Bounds.{between-true}
-use Rattle.items.specs.Item.{isWidth}
+use Rattle.words.specs.Words.{isWidth}
+use Rattle.words.proofs.Bounds.{between-true}
 use Rattle.control.specs.declared.Control.{Control}
 use Rattle.control.specs.declared.Touched.the-variants.{Word}
 use Rattle.control.specs.Simpson.{Writer, Reader, simpson}

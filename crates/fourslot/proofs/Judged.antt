@@ -8,8 +8,7 @@ use lib.ListN.{length, take}
 use Rattle.refusals.specs.declared.Answer.{Answer}
 use Rattle.refusals.specs.declared.Answer.the-variants.{Accepted}
 use Rattle.refusals.proofs.Apart.{apart}
-use Rattle.numbers.specs.Number.{Below}
-use Rattle.items.specs.Item.{Fits}
+use Rattle.words.specs.Words.{Below, Fits}
 use Rattle.history.specs.Event.{Event}
 use Rattle.history.specs.Reads.{readsOf}
 use Rattle.history.specs.Placing.{Placing}

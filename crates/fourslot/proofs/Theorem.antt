@@ -8,7 +8,7 @@ use mathlib.Core.Bool.{Bool}
 use mathlib.Core.List.{List, [], _∷_}
 use lib.ListN.{length, getD, take, replicate, getD-replicate}
 use lib.Seq.{length-sets, ext-getD}
-use Rattle.numbers.proofs.Bounds.{between-true}
+use Rattle.words.proofs.Bounds.{between-true}
 use Rattle.machine.specs.Machine.{firstWords, slotWord, inAllFour, idleState}
 use Rattle.machine.proofs.Slots.{slots-within, four-hold}
 use Rattle.machine.proofs.Words.{four-length, fresh-width}

@@ -6,8 +6,7 @@ use mathlib.Core.List.{List, [], map}
 use lib.ListN.{length, getD, take}
 use Rattle.refusals.specs.declared.Answer.{Answer}
 use Rattle.refusals.specs.declared.Answer.the-variants.{Accepted}
-use Rattle.numbers.specs.Number.{Below}
-use Rattle.items.specs.Item.{isWidth}
+use Rattle.words.specs.Words.{Below, isWidth}
 use Rattle.control.specs.declared.Control.{Control}
 use Rattle.control.specs.declared.Touched.the-variants.{Word}
 use Rattle.control.specs.Simpson.{Writer, Reader, simpson}

@@ -15,8 +15,8 @@ use Rattle.refusals.specs.declared.Answer.{Answer}
 use Rattle.refusals.specs.declared.Answer.the-variants.{Accepted, Refused}
 use Rattle.refusals.specs.Table.{answerPlace, answerWord}
 use Rattle.refusals.proofs.Lists.{sets-append}
+use Rattle.words.specs.Words.{Below}
 use Rattle.numbers.specs.Reading.{bytesOfAll}
-use Rattle.numbers.specs.Number.{Below}
 use Rattle.placing.specs.Judgement.{JudgementOf, Judges}
 use Rattle.history.proofs.Verdicts.{judgement-unique, judgement-length, judgement-accepted, judgement-refused}
 use Rattle.placing.proofs.Whole.{judgement-room}

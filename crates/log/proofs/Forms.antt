@@ -16,18 +16,20 @@ use Rattle.refusals.specs.declared.Answer.{Answer}
 use Rattle.refusals.specs.declared.Answer.the-variants.{Accepted, Refused}
 use Rattle.refusals.specs.Table.{answerPlace}
 use Rattle.refusals.proofs.Apart.{apart}
+use Rattle.words.specs.Words.{Below, isWidth, Fits}
+use Rattle.words.proofs.Bounds.{below-drop}
+use Rattle.words.proofs.Fits.{fits-length, below-eight}
 use Rattle.numbers.specs.declared.Num.{Num}
 use Rattle.numbers.specs.declared.Num.the-variants.{Value, Bad}
-use Rattle.numbers.specs.Number.{numberOf, bytesOf, Below}
+use Rattle.numbers.specs.Number.{numberOf, bytesOf}
 use Rattle.numbers.specs.Reading.{afterNumber, afterPart, unlessTrailing, bytesOfAll, Every}
 use Rattle.numbers.proofs.Laws.{in-last}
-use Rattle.numbers.proofs.Bounds.{below-drop}
 use Rattle.numbers.proofs.Bytes.{bytes-last}
 use Rattle.numbers.proofs.Forms.{number-form}
 use Rattle.numbers.proofs.Parts.{PartsForm, parts-within, parts-back, parts-form}
-use Rattle.items.specs.Item.{isWidth, Fits, itemOf, itemBytes}
+use Rattle.items.specs.Item.{itemOf, itemBytes}
 use Rattle.items.proofs.Forms.{item-form}
-use Rattle.items.proofs.Fits.{fits-length, below-eight, item-fits, fits-back}
+use Rattle.items.proofs.Fits.{item-fits, fits-back}
 use Rattle.head.specs.declared.Head.{Head}
 use Rattle.head.specs.Head.{headTo, headOf, headBytes}
 use Rattle.head.proofs.Forms.{head-back, head-form}

@@ -10,7 +10,7 @@ use borrow.Table.Steps.{cases}
 use borrow.Author.Tests.{ne-eqb}
 use Rattle.refusals.specs.declared.Fault.the-variants as fault
 use Rattle.refusals.specs.declared.Answer.the-variants.{Accepted, Refused}
-use Rattle.items.specs.Item.{isWidth, eight}
+use Rattle.words.specs.Words.{isWidth, eight}
 use Rattle.control.specs.declared.Happened.the-variants.{NoEvent, Returned}
 use Rattle.control.specs.Simpson.{moves, Writer, Reader, Procedures, simpson}
 use Rattle.control.specs.Step.{sound, step}

@@ -13,7 +13,7 @@ use borrow.Author.Tests.{leb-true, leb-false}
 use Rattle.refusals.specs.declared.Fault.the-variants.{Width}
 use Rattle.refusals.specs.declared.Answer.the-variants.{Accepted, Refused}
 use Rattle.refusals.proofs.Lists.{sets-append}
-use Rattle.numbers.proofs.Bounds.{between-in, between-below, between-above}
+use Rattle.words.proofs.Bounds.{between-in, between-below, between-above}
 use Rattle.control.specs.declared.Control.{Control}
 use Rattle.control.specs.declared.Touched.{Touched}
 use Rattle.control.specs.declared.Touched.the-variants.{Nothing, Word}

@@ -5,7 +5,7 @@ use mathlib.Core.List.{List, [], _++_}
 use lib.ListN.{getD, set, take, replicate}
 use Rattle.refusals.specs.declared.Fault.the-variants.{Width}
 use Rattle.refusals.specs.declared.Answer.the-variants.{Accepted, Refused}
-use Rattle.items.specs.Item.{isWidth, eight}
+use Rattle.words.specs.Words.{isWidth, eight}
 use Rattle.control.specs.declared.Core.{Core}
 use Rattle.control.specs.declared.Control.{Control}
 use Rattle.control.specs.declared.Step.{Step}

@@ -10,7 +10,7 @@ ghost use mathlib.Core.Path.{_≡_};
 ghost use mathlib.Core.Bool.{cond};
 ghost use mathlib.Core.List.{[]};
 ghost use Prim.Native.Nat.{_<_};
-ghost use Rattle.items.specs.Item.{eight};
+ghost use Rattle.words.specs.Words.{eight};
 ghost use Rattle.control.specs.Simpson.{simpson};
 ghost use Rattle.control.specs.Step.{WordBelow};
 ghost use Rattle.machine.specs.Machine.{firstWords, slotWord, stored, loaded, isCall, isReturn, withWriter, withReader, writerAfter, readerAfter, writerMove, readerMove, idleState, inAllFour, fresh};

@@ -12,17 +12,20 @@ use lib.Seq.{drop-append-seam, take-all}
 use Rattle.refusals.specs.declared.Fault.the-variants.{Code}
 use Rattle.refusals.specs.declared.Answer.the-variants.{Accepted, Refused}
 use Rattle.refusals.proofs.Apart.{apart}
+use Rattle.words.specs.Words.{Below, isWidth, Fits}
+use Rattle.words.proofs.Bounds.{between-in}
+use Rattle.words.proofs.Fits.{fits-length}
 use Rattle.numbers.specs.declared.Num.{Num}
 use Rattle.numbers.specs.declared.Num.the-variants.{Value, Bad}
-use Rattle.numbers.specs.Number.{numberOf, answerOf, valueIn, bytesOf, Below}
+use Rattle.numbers.specs.Number.{numberOf, answerOf, valueIn, bytesOf}
 use Rattle.numbers.specs.Reading.{afterPart, partsEnd, partsOf, bytesOfAll, Every}
 use Rattle.numbers.proofs.Laws.{in-cut}
-use Rattle.numbers.proofs.Bounds.{between-in, within-value}
+use Rattle.numbers.proofs.Bounds.{within-value}
 use Rattle.numbers.proofs.Bytes.{bytes-last}
 use Rattle.numbers.proofs.Forms.{number-back, number-accepted}
 use Rattle.numbers.proofs.Parts.{parts-back}
-use Rattle.items.specs.Item.{isWidth, Fits, itemOf, itemBytes}
-use Rattle.items.proofs.Fits.{fits-length, fits-back}
+use Rattle.items.specs.Item.{itemOf, itemBytes}
+use Rattle.items.proofs.Fits.{fits-back}
 use Rattle.head.specs.declared.Head.{Head}
 use Rattle.head.specs.Head.{countOf, headTo, headOf, headBytes}
 use Rattle.head.proofs.Forms.{head-back}

@@ -12,9 +12,10 @@ use Rattle.refusals.specs.declared.Answer.{Answer}
 use Rattle.refusals.specs.declared.Answer.the-variants.{Accepted, Refused}
 use Rattle.refusals.specs.Table.{answerPlace}
 use Rattle.refusals.proofs.Lists.{part-drop}
+use Rattle.words.specs.Words.{Below}
 use Rattle.numbers.specs.declared.Num.{Num}
 use Rattle.numbers.specs.declared.Num.the-variants.{Value, Bad}
-use Rattle.numbers.specs.Number.{answerOf, usedOf, Below}
+use Rattle.numbers.specs.Number.{answerOf, usedOf}
 use Rattle.numbers.specs.Reading.{afterNumber, afterPart, unlessTrailing}
 use Rattle.numbers.proofs.Bounds.{within-used}
 use Rattle.numbers.proofs.Parts.{parts-within}

@@ -11,16 +11,19 @@ use Rattle.refusals.specs.declared.Fault.the-variants.{Code, Count}
 use Rattle.refusals.specs.declared.Answer.{Answer}
 use Rattle.refusals.specs.declared.Answer.the-variants.{Accepted, Refused}
 use Rattle.refusals.proofs.Apart.{apart}
+use Rattle.words.specs.Words.{Below, eight, Fits}
+use Rattle.words.proofs.Bounds.{below-drop}
+use Rattle.words.proofs.Fits.{below-eight}
 use Rattle.numbers.specs.declared.Num.{Num}
 use Rattle.numbers.specs.declared.Num.the-variants.{Value, Bad}
-use Rattle.numbers.specs.Number.{numberOf, answerOf, valueIn, bytesOf, Below}
+use Rattle.numbers.specs.Number.{numberOf, answerOf, valueIn, bytesOf}
 use Rattle.numbers.specs.Reading.{afterNumber, afterPart, unlessTrailing}
-use Rattle.numbers.proofs.Bounds.{below-drop, within-value, within-used}
+use Rattle.numbers.proofs.Bounds.{within-value, within-used}
 use Rattle.numbers.proofs.Forms.{number-form}
 use Rattle.numbers.proofs.Parts.{PartsForm, parts-form}
-use Rattle.items.specs.Item.{eight, Fits, itemOf, itemBytes}
+use Rattle.items.specs.Item.{itemOf, itemBytes}
 use Rattle.items.proofs.Forms.{item-form}
-use Rattle.items.proofs.Fits.{below-eight, item-fits}
+use Rattle.items.proofs.Fits.{item-fits}
 use Rattle.head.specs.declared.Head.{Head}
 use Rattle.head.specs.Head.{countOf, headOf}
 use Rattle.head.proofs.Forms.{HeadForm, head-form}

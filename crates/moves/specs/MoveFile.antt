@@ -7,10 +7,11 @@ use Rattle.refusals.specs.declared.Fault.{Fault}
 use Rattle.refusals.specs.declared.Fault.the-variants.{Code}
 use Rattle.refusals.specs.declared.Answer.{Answer}
 use Rattle.refusals.specs.declared.Answer.the-variants.{Accepted, Refused}
+use Rattle.words.specs.Words.{eight}
 use Rattle.numbers.specs.declared.Num.{Num}
 use Rattle.numbers.specs.Number.{numberOf, within, answerOf, valueIn, bytesOf}
 use Rattle.numbers.specs.Reading.{afterNumber, afterPart, partsEnd, partsOf, unlessTrailing, bytesOfAll}
-use Rattle.items.specs.Item.{eight, itemOf, itemBytes}
+use Rattle.items.specs.Item.{itemOf, itemBytes}
 use Rattle.head.specs.declared.Head.{Head}
 use Rattle.head.specs.Head.{countOf, headOf, headBytes}
 use Rattle.moves.specs.declared.MoveFile.{MoveFile}

@@ -9,7 +9,7 @@ use lib.ListN.{length, take}
 use Rattle.refusals.specs.declared.Fault.{Fault}
 use Rattle.refusals.specs.declared.Fault.the-variants.{Items}
 use Rattle.refusals.proofs.Apart.{apart}
-use Rattle.items.specs.Item.{eight}
+use Rattle.words.specs.Words.{eight}
 use Rattle.history.specs.Event.{Event}
 use Rattle.runs.specs.Run.{Bench, Outcome, Stopped, Ran, before, dealt, run, lastState}
 

@@ -5,7 +5,7 @@ use mathlib.Core.Path.{_≡_, refl}
 use mathlib.Core.List.{List, [], _∷_}
 use lib.ListN.{replicate}
 use Rattle.refusals.specs.declared.Fault.the-variants.{Items}
-use Rattle.items.specs.Item.{eight}
+use Rattle.words.specs.Words.{eight}
 use Rattle.control.specs.Simpson.{simpson, eachWord}
 use Rattle.control.specs.Step.{sound, step}
 use Rattle.machine.specs.Machine.{writerAfter, readerAfter, inAllFour, fresh}

@@ -4,7 +4,7 @@ use mathlib.Core.Path.{sym}
 use native.Mathlib.Omega.{arith}
 use borrow.Author.Needs.{needs}
 use lib.Seq.{length-take-le}
-use Rattle.numbers.specs.Number.{Below}
+use Rattle.words.specs.Words.{Below}
 use Rattle.bench.proofs.Bench.{text-stopped, filled-length, log-within, text-ran}
 use Rattle.bench.proofs.bench_text.Statement.{statement}
 use Rattle.bench.proofs.bench_text.Tie as tie
