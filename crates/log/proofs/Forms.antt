@@ -30,9 +30,9 @@ use Rattle.numbers.proofs.Parts.{PartsForm, parts-within, parts-back, parts-for
 use Rattle.items.specs.Item.{itemOf, itemBytes}
 use Rattle.items.proofs.Forms.{item-form}
 use Rattle.items.proofs.Fits.{item-fits, fits-back}
-use Rattle.head.specs.declared.Head.{Head}
-use Rattle.head.specs.Head.{headTo, headOf, headBytes}
-use Rattle.head.proofs.Forms.{head-back, head-form}
+use Rattle.items.specs.declared.Head.{Head}
+use Rattle.items.specs.Head.{headTo, headOf, headBytes}
+use Rattle.items.proofs.HeadForms.{head-back, head-form}
 use Rattle.history.specs.declared.Kind.{Kind}
 use Rattle.history.specs.declared.Kind.the-variants.{WriteCalled, ReadReturned}
 use Rattle.history.specs.declared.Open.{Open}

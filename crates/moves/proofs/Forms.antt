@@ -26,13 +26,13 @@ use Rattle.numbers.proofs.Forms.{number-back, number-accepted}
 use Rattle.numbers.proofs.Parts.{parts-back}
 use Rattle.items.specs.Item.{itemOf, itemBytes}
 use Rattle.items.proofs.Fits.{fits-back}
-use Rattle.head.specs.declared.Head.{Head}
-use Rattle.head.specs.Head.{countOf, headTo, headOf, headBytes}
-use Rattle.head.proofs.Forms.{head-back}
+use Rattle.items.specs.declared.Head.{Head}
+use Rattle.items.specs.Head.{countOf, headTo, headOf, headBytes}
+use Rattle.items.proofs.HeadForms.{head-back}
 use Rattle.moves.specs.declared.MoveFile.{MoveFile}
 use Rattle.moves.specs.MoveFile.{itemsEnd, itemsIn, codeOf, codesEnd, codesIn, trackOf}
 use Rattle.moves.specs.MoveFile.{afterItems, afterHead, moveFileOf, itemsOf, movesOf, fileBytes}
-use Rattle.moves.proofs.Steps.{trackTo, fileTo, itemPart, codePart, moves-read}
+use Rattle.moves.proofs.Steps.{trackTo, fileTo, itemPart, codePart, moves-whole}
 use Rattle.moves.proofs.Whole.{track-drop, head-fits, whole-form, track-at, moves-size}
 use Rattle.moves.proofs.Whole.{whole-items, whole-read, whole-moves, whole-reaches}
 
@@ -180,8 +180,8 @@ track-back last moves l few every =
     let m = length moves in
     let count : countOf 4096 (bytesOf m ++ codes) ≡ Value m (length (bytesOf m)) =
     rw (number-back m codes (omega arith), between-in 0 4096 m (omega arith) few) in
-    let read = moves-read last m codes (sym (codes-back last moves l every .0)) (length (bytesOf m)) refl (omega arith) in
-    rw (count, zero-add, drop-append-seam (bytesOf m) codes, length-append (bytesOf m) codes) (sym read)
+    let read = moves-whole last m (length (bytesOf m)) codes (codes-back last moves l every .0) (omega arith) in
+    rw (count, zero-add, drop-append-seam (bytesOf m) codes, length-append (bytesOf m) codes) read
 
 -- What reading back a move file that was written gives.
 pub record FileBack (last n : ℕ) (initial : List ℕ) (items : List (List ℕ)) (moves s : List ℕ) (f : MoveFile) : Type 0 where

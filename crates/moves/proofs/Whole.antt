@@ -24,9 +24,9 @@ use Rattle.numbers.proofs.Parts.{PartsForm, parts-form}
 use Rattle.items.specs.Item.{itemOf, itemBytes}
 use Rattle.items.proofs.Forms.{item-form}
 use Rattle.items.proofs.Fits.{item-fits}
-use Rattle.head.specs.declared.Head.{Head}
-use Rattle.head.specs.Head.{countOf, headOf}
-use Rattle.head.proofs.Forms.{HeadForm, head-form}
+use Rattle.items.specs.declared.Head.{Head}
+use Rattle.items.specs.Head.{countOf, headOf}
+use Rattle.items.proofs.HeadForms.{HeadForm, head-form}
 use Rattle.moves.specs.MoveFile.{itemsEnd, itemsIn, codeOf, codesEnd, codesIn, refusedTrack, movesAt, trackOf}
 use Rattle.moves.specs.MoveFile.{refusedFile, afterItems, afterHead, moveFileOf}
 use Rattle.moves.proofs.Steps.{trackTo, fileTo, itemPart, codePart, codes-ends, items-ends, head-ends}
@@ -46,7 +46,7 @@ moves-form last count at k s e = go (codesEnd last count s) refl e
         → MovesForm last count at k s
     rest j [] is left f =
         let end : at + j ≡ k = cc in
-        let all : j ≡ length s = omega (arith, codes-ends last count s refl is, length-drop j s, ap length left) in
+        let all : j ≡ length s = omega (arith, codes-ends last count s is, length-drop j s, ap length left) in
         record { is = rw (is, left, end); read = is ∙ ap Accepted all; ends = omega arith }
     rest j (b ∷ t) is left f = apart cc
 
@@ -130,7 +130,7 @@ tail-form last h at k s bs e = go (itemsEnd (h .n) (h .count) s) refl e
         → TailForm last h at k s
     go (Accepted j) is f =
         let after = after-form last h at (at + j) k (drop j s) (below-drop 256 j s bs) f in
-        record { used = j; read = is; within = items-ends h s refl is; after = after; is = rw is (after .is) }
+        record { used = j; read = is; within = items-ends (h .n) (h .count) s is; after = after; is = rw is (after .is) }
     go (Refused x j) is f = apart cc
 
 -- What the whole file says of its bytes.

@@ -1,1 +1,2 @@
 pub mod MoveFile
+pub mod Steps

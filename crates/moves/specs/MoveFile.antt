@@ -12,8 +12,8 @@ use Rattle.numbers.specs.declared.Num.{Num}
 use Rattle.numbers.specs.Number.{numberOf, within, answerOf, valueIn, bytesOf}
 use Rattle.numbers.specs.Reading.{afterNumber, afterPart, partsEnd, partsOf, unlessTrailing, bytesOfAll}
 use Rattle.items.specs.Item.{itemOf, itemBytes}
-use Rattle.head.specs.declared.Head.{Head}
-use Rattle.head.specs.Head.{countOf, headOf, headBytes}
+use Rattle.items.specs.declared.Head.{Head}
+use Rattle.items.specs.Head.{countOf, headOf, headBytes}
 use Rattle.moves.specs.declared.MoveFile.{MoveFile}
 use Rattle.moves.specs.declared.Track.{Track}
 

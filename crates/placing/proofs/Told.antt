@@ -15,7 +15,7 @@ use Rattle.history.proofs.FirstFits.{Told, refusal, told, told-right}
 use Rattle.numbers.specs.Number.{numberIn, lead, valueOf}
 use Rattle.numbers.specs.Reading.{partsEnd, partsOf}
 use Rattle.items.specs.Item.{itemOf, endOf, valuesOf}
-use Rattle.head.specs.Head.{headOf, itemAt, countAt}
+use Rattle.items.specs.Head.{headOf, itemAt, countAt}
 use Rattle.log.specs.Log.{coded, eventOf, afterHead, logOf}
 use Rattle.placing.specs.Judgement.{logFrom, eventsFrom, itemsFrom, JudgementOf, Judges}
 

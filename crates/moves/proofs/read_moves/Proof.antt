@@ -1,10 +1,9 @@
--- `moves::read_moves` meets its contract: the beginning comes first, and the items are read from what it hands on.
+-- `moves::read_moves` meets its contract: the beginning, then the items, then what stands after them; the first that is refused ends it.
 -- Assumes nothing.
 use Prim.Native.Nat.{ℕ}
 use native.Mathlib.Omega.{arith}
 use borrow.Author.Needs.{needs}
-use lib.ListN.{length-take, length-drop}
-use Rattle.moves.proofs.Steps.{head-ends, head-read, head-refused}
+use Rattle.moves.proofs.Steps.{head-ends, head-refused, items-read, items-refused, items-within-file}
 use Rattle.moves.proofs.read_moves.Statement.{statement}
 use Rattle.moves.proofs.read_moves.Tie as tie
 
@@ -14,44 +13,55 @@ read-head-requires c κs = search needs
 enum-known-answer : tie.Need-enum-known-answer
 enum-known-answer c = search needs
 
-cast-used : tie.Need-cast-used
-cast-used c = search needs
-
-sub-after-head : tie.Need-sub-after-head
-sub-after-head c =
-    let bytes = c .before .before .before .before .shared-slice-known .given in
-    head-ends _ _ (c .before .before .before .read-head .ensures) (λ (i : ℕ). bytes i .fits) (c .before .answer .given .1) .0
-
-part-after-head-start : tie.Need-part-after-head-start
-part-after-head-start c =
-    let bytes = c .before .before .before .before .shared-slice-known .given in
-    head-ends _ _ (c .before .before .before .read-head .ensures) (λ (i : ℕ). bytes i .fits) (c .before .answer .given .1) .0
-
-part-after-head-end : tie.Need-part-after-head-end
-part-after-head-end c = search needs
-
-after-head-requires : tie.Need-after-head-requires
-after-head-requires c κs =
-    let bytes = c .before .before .before .before .before .shared-slice-known .given in
-    let read = c .before .before .before .before .read-head .ensures in
-    let ends = head-ends _ _ read (λ (i : ℕ). bytes i .fits) (c .before .before .answer .given .1) in
-    simp (length-take, length-drop) (omega (arith, ends .0, ends .1))
-
-enum-known-answer-2 : tie.Need-enum-known-answer-2
-enum-known-answer-2 c = search needs
+enum-told : tie.Need-enum-told
+enum-told c = search needs
 
 refused-requires : tie.Need-refused-requires
 refused-requires c κs = search needs
 
 returns : tie.Need-returns
-returns c =
-    let read = c .before .before .before .before .before .read-head .ensures in
-    head-read _ _ read _ (c .before .before .before .answer .given .1) (c .after-head .ensures)
+returns c = head-refused _ _ (c .before .before .before .read-head .ensures) _ (c .before .enum-told .given .1) (c .refused .ensures)
+
+cast-items-end : tie.Need-cast-items-end
+cast-items-end c = search needs
+
+items-end-requires : tie.Need-items-end-requires
+items-end-requires c κs =
+    let bytes = c .before .before .before .before .before .shared-slice-known .given in
+    let read = c .before .before .before .before .read-head .ensures in
+    let ends = head-ends _ _ read (λ (i : ℕ). bytes i .fits) (c .before .before .answer .given .1) in
+    (ends .0, omega (arith, ends .1))
+
+enum-known-items : tie.Need-enum-known-items
+enum-known-items c = search needs
+
+enum-told-2 : tie.Need-enum-told-2
+enum-told-2 c = search needs
+
+refused-requires-2 : tie.Need-refused-requires-2
+refused-requires-2 c κs = search needs
 
 returns-2 : tie.Need-returns-2
 returns-2 c =
-    let read = c .before .before .before .before .read-head .ensures in
-    head-refused _ _ read _ (c .before .before .answer2 .given .1) (c .refused .ensures)
+    let read = c .before .before .before .before .before .before .before .before .read-head .ensures in
+    let is = c .before .before .before .before .before .before .answer .given .1 in
+    items-refused _ _ read _ is (c .before .before .before .items-end .ensures) (c .before .enum-told2 .given .1) (c .refused2 .ensures)
+
+after-items-requires : tie.Need-after-items-requires
+after-items-requires c κs =
+    let bytes = c .before .before .before .before .before .before .before .before .before .shared-slice-known .given in
+    let read = c .before .before .before .before .before .before .before .before .read-head .ensures in
+    let is = c .before .before .before .before .before .before .answer .given .1 in
+    let ends = head-ends _ _ read (λ (i : ℕ). bytes i .fits) is in
+    let items = c .before .before .before .items-end .ensures in
+    (items-within-file _ _ read 0 is items (ends .0) (c .before .items .given .1), omega (arith, ends .1))
+
+returns-3 : tie.Need-returns-3
+returns-3 c =
+    let read = c .before .before .before .before .before .before .before .before .before .read-head .ensures in
+    let is = c .before .before .before .before .before .before .before .answer .given .1 in
+    let items = c .before .before .before .before .items-end .ensures in
+    items-read _ _ read _ is items (c .before .before .items .given .1) (c .after-items .ensures)
 
 pub read-moves-spec : {M : Type 1} → statement M
 read-moves-spec =
@@ -59,12 +69,14 @@ read-moves-spec =
     (tie.spec
     read-head-requires
     enum-known-answer
-    cast-used
-    sub-after-head
-    part-after-head-start
-    part-after-head-end
-    after-head-requires
-    enum-known-answer-2
+    enum-told
     refused-requires
     returns
-    returns-2)
+    cast-items-end
+    items-end-requires
+    enum-known-items
+    enum-told-2
+    refused-requires-2
+    returns-2
+    after-items-requires
+    returns-3)
