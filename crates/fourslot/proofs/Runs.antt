@@ -5,7 +5,7 @@ use native.Mathlib.Nat.{le-refl, add-zero}
 use native.Mathlib.Numerals.{add-one}
 use native.Mathlib.Omega.{arith}
 use native.Mathlib.Decide.{decLt}
-use mathlib.Core.Path.{_≡_, refl, sym, ap, _∙_}
+use mathlib.Core.Path.{_≡_, refl, sym, ap, subst, _∙_}
 use mathlib.Core.Bool.{true, false}
 use mathlib.Core.List.{List, [], _∷_, _++_, map}
 use lib.ListN.{getD, drop, replicate}
@@ -18,7 +18,7 @@ use Rattle.control.specs.declared.Step.{Step}
 use Rattle.control.specs.Simpson.{Writer, Reader, simpson}
 use Rattle.control.specs.Step.{step}
 use Rattle.machine.specs.declared.State.{State}
-use Rattle.machine.specs.Machine.{writerAfter, readerAfter, writerMove, readerMove}
+use Rattle.machine.specs.Machine.{writerAfter, readerAfter}
 use Rattle.history.specs.declared.Kind.the-variants.{WriteCalled, WriteReturned, ReadCalled, ReadReturned}
 use Rattle.history.specs.Event.{Event, event, kindOf}
 use Rattle.history.specs.Reads.{written, readsAfter}
@@ -93,15 +93,20 @@ module _ (all : List (List ℕ)) where
         run-on (withTags simpson) (beside s t) items code codes x left k (deal-beside s t code items x left d)
         ∙ rw (e, q, r, write-words (st .happened) (writerAfter st s x .item) (replicate 8 (tagStore st t .called)))
 
+    -- What a move of the writer adds, where this is its step.
+    abbrev Writing : Tags → Ghost → ℕ → ℕ → ℕ → Step → Type 0
+    Writing t g k calls last st =
+        Claim (writerAfter st s x .state) left codes es
+        → drop (suc (t .called)) all ≡ written (writes (writerAfter st s x) .events ++ es) → last ≤ g .taken
+        → Result s t g k calls last items (code ∷ codes) (writes (writerAfter st s x) .events ++ es)
+
     write-claim : (ws : WriterStage) (rs : ReaderStage) (t : Tags) (g : Ghost) (k calls last : ℕ) → eqb code 0 ≡ true
         → Inv byNumber ws rs s t g
-        → Claim (writerMove simpson s x .state) left codes es
-        → drop (suc (t .called)) all ≡ written (writes (writerMove simpson s x) .events ++ es) → last ≤ g .taken
-        → Result s t g k calls last items (code ∷ codes) (writes (writerMove simpson s x) .events ++ es)
+        → Writing t g k calls last (step simpson Writer (s .control))
     unfolding writerAfter written readsAfter
     write-claim w-idle rs t g k calls last e h =
         let q = pair-move (s .control) (at-sound (h .at)) (h .at .writer) in
-        rw q λ ih future le.
+        subst (Writing t g k calls last) (sym q) λ ih future le.
         let next = drop-first (suc (t .called)) all _ (written es) future in
         let r = ih w-pair rs _ g (suc k) calls last (inv-pair byNumber rs s t g x (next .0) h) (next .1) le in
         record {
@@ -114,7 +119,7 @@ module _ (all : List (List ℕ)) where
         }
     write-claim w-pair rs t g k calls last e h =
         let q = index-move (s .control) (at-sound (h .at)) (h .at .writer) in
-        rw q λ ih future le.
+        subst (Writing t g k calls last) (sym q) λ ih future le.
         let r = ih w-index rs _ g (suc k) calls last (inv-index byNumber rs s t g h) future le in
         record {
           tags = _;
@@ -127,15 +132,13 @@ module _ (all : List (List ℕ)) where
     write-claim w-index rs t g k calls last e h = at-word (decLt (s .control .writer .phase) (2 + s .control .n))
       where
         at-word : Dec (s .control .writer .phase < 2 + s .control .n)
-            → Claim (writerMove simpson s x .state) left codes es
-            → drop (suc (t .called)) all ≡ written (writes (writerMove simpson s x) .events ++ es) → last ≤ g .taken
-            → Result s t g k calls last items (code ∷ codes) (writes (writerMove simpson s x) .events ++ es)
+            → Writing t g k calls last (step simpson Writer (s .control))
         at-word (yes l) =
             let j = s .control .writer .phase - 2 in
             let is : s .control .writer .phase ≡ 2 + j = omega (arith, h .at .writer .0) in
             let less : j < s .control .n = omega arith in
             let q = store-move (s .control) (at-sound (h .at)) j is less in
-            rw q λ ih future le.
+            subst (Writing t g k calls last) (sym q) λ ih future le.
             let r = ih w-index rs _ g (suc k) calls last (inv-store byNumber rs s t g j is less h) future le in
             record {
               tags = _;
@@ -148,7 +151,7 @@ module _ (all : List (List ℕ)) where
         at-word (no m) =
             let is : s .control .writer .phase ≡ 2 + s .control .n = omega (arith, h .at .writer .1) in
             let q = slot-move (s .control) (at-sound (h .at)) is in
-            rw q λ ih future le.
+            subst (Writing t g k calls last) (sym q) λ ih future le.
             let r = ih w-set rs _ _ (suc k) calls last (inv-slot byNumber rs s t g is h) future le in
             record {
               tags = _;
@@ -160,7 +163,7 @@ module _ (all : List (List ℕ)) where
             }
     write-claim w-set rs t g k calls last e h =
         let q = latest-move (s .control) (at-sound (h .at)) (h .at .writer) in
-        rw q λ ih future le.
+        subst (Writing t g k calls last) (sym q) λ ih future le.
         let r = ih w-idle rs _ _ (suc k) calls last (inv-latest byNumber rs s t g h) future le in
         record {
           tags = _;
@@ -180,15 +183,20 @@ module _ (all : List (List ℕ)) where
         run-on (withTags simpson) (beside s t) items code codes x left k (deal-beside s t code items x left d)
         ∙ rw (e, q, r, read-words (st .happened) (readerAfter st s .item) (tagLoad st t .loaded))
 
+    -- What a move of the reader adds, where this is its step.
+    abbrev Reading : Tags → Ghost → ℕ → ℕ → ℕ → Step → Type 0
+    Reading t g k calls last st =
+        Claim (readerAfter st s .state) left codes es
+        → drop (suc (t .called)) all ≡ written (reads (readerAfter st s) .events ++ es) → last ≤ g .taken
+        → Result s t g k calls last items (code ∷ codes) (reads (readerAfter st s) .events ++ es)
+
     read-claim : (ws : WriterStage) (rs : ReaderStage) (t : Tags) (g : Ghost) (k calls last : ℕ) → eqb code 0 ≡ false
         → Inv byNumber ws rs s t g
-        → Claim (readerMove simpson s .state) left codes es
-        → drop (suc (t .called)) all ≡ written (reads (readerMove simpson s) .events ++ es) → last ≤ g .taken
-        → Result s t g k calls last items (code ∷ codes) (reads (readerMove simpson s) .events ++ es)
+        → Reading t g k calls last (step simpson Reader (s .control))
     unfolding readerAfter written readsAfter Borne Placed
     read-claim ws r-idle t g k calls last e h =
         let q = take-move (s .control) (at-sound (h .at)) (h .at .reader) in
-        rw q λ ih future le.
+        subst (Reading t g k calls last) (sym q) λ ih future le.
         let r = ih ws r-pair _ _ (suc k) (suc calls) last (inv-take byNumber ws s t g h) future le in
         record {
           tags = _;
@@ -200,7 +208,7 @@ module _ (all : List (List ℕ)) where
         }
     read-claim ws r-pair t g k calls last e h =
         let q = announce-move (s .control) (at-sound (h .at)) (h .at .reader) in
-        rw q λ ih future le.
+        subst (Reading t g k calls last) (sym q) λ ih future le.
         let r = ih ws r-announced _ g (suc k) calls last (inv-announce byNumber ws s t g h) future le in
         record {
           tags = _;
@@ -212,7 +220,7 @@ module _ (all : List (List ℕ)) where
         }
     read-claim ws r-announced t g k calls last e h =
         let q = point-move (s .control) (at-sound (h .at)) (h .at .reader) (h .at .low) in
-        rw q λ ih future le.
+        subst (Reading t g k calls last) (sym q) λ ih future le.
         let r = ih ws r-index _ _ (suc k) calls last (inv-point byNumber ws s t g h) future (omega (arith, h .numbers .not-older tt)) in
         record {
           tags = _;
@@ -234,12 +242,10 @@ module _ (all : List (List ℕ)) where
         less = omega (arith, h .at .reader .0, h .at .reader .1)
 
         at-word : Dec (s .control .reader .phase < 2 + s .control .n)
-            → Claim (readerMove simpson s .state) left codes es
-            → drop (suc (t .called)) all ≡ written (reads (readerMove simpson s) .events ++ es) → last ≤ g .taken
-            → Result s t g k calls last items (code ∷ codes) (reads (readerMove simpson s) .events ++ es)
+            → Reading t g k calls last (step simpson Reader (s .control))
         at-word (yes l) =
             let q = load-move (s .control) (at-sound (h .at)) j is (omega arith) in
-            rw q λ ih future le.
+            subst (Reading t g k calls last) (sym q) λ ih future le.
             let r = ih ws r-index _ g (suc k) calls last (inv-load byNumber ws s t g j is less h (omega arith)) future le in
             record {
               tags = _;
@@ -252,7 +258,7 @@ module _ (all : List (List ℕ)) where
         at-word (no m) =
             let full : 1 + j ≡ s .control .n = omega (arith, h .at .reader .1) in
             let q = last-move (s .control) (at-sound (h .at)) j is full in
-            rw q λ ih future le.
+            subst (Reading t g k calls last) (sym q) λ ih future le.
             let r = ih ws r-idle _ g (suc k) calls (g .taken) (inv-last byNumber ws s t g j is less h) future (le-refl _) in
             record {
               tags = _;
