@@ -1,4 +1,6 @@
 // Simpson's moves, 01, "The machine": the control part of a machine by value, all of a state but its words.
+#![tactic(auto)]
+
 ghost use Rattle.std.specs.Prelude.{◌≡◌, not};
 ghost use Rattle.control.specs.Simpson.{Writer, Reader, slot_at, set_pair, set_index, set_slot, set_latest, set_reading, simpson};
 ghost use Rattle.control.specs.Step.{idle, does, at_phase, sound, accepted, refused, step};
@@ -6,7 +8,7 @@ ghost use Rattle.control.specs.Step.{idle, does, at_phase, sound, accepted, refu
 use refusals::{Answer, Fault};
 
 // The shared bits.
-#[derive(Drop)]
+#[derive(Clone, Copy)]
 pub struct Bits {
     pub latest: bool,
     pub reading: bool,
@@ -15,7 +17,7 @@ pub struct Bits {
 }
 
 // A core's locals but its item. The phase is the number of moves done of its open call, 0 when idle.
-#[derive(Drop)]
+#[derive(Clone, Copy)]
 pub struct Core {
     pub phase: usize,
     pub pair: bool,
@@ -23,7 +25,7 @@ pub struct Core {
 }
 
 // A machine of width n, without its words.
-#[derive(Drop)]
+#[derive(Clone, Copy)]
 pub struct Control {
     pub n: usize,
     pub bits: Bits,
@@ -32,14 +34,14 @@ pub struct Control {
 }
 
 // The word that a move touches: word k of its side's item, which a writer stores into the slot (pair, index) and a reader loads from it.
-#[derive(Drop)]
+#[derive(Clone, Copy)]
 pub enum Touched {
     Nothing,
     Word(usize),
 }
 
 // The event of a move: its call's, CW of a writer and CR of a reader; its return's, RW and RR; or none.
-#[derive(Drop)]
+#[derive(Clone, Copy)]
 pub enum Happened {
     NoEvent,
     Called,
@@ -47,7 +49,7 @@ pub enum Happened {
 }
 
 // A move's answer and event, the word that it touches, and the control part after it.
-#[derive(Drop)]
+#[derive(Clone, Copy)]
 pub struct Step {
     pub answer: Answer,
     pub happened: Happened,

@@ -1,4 +1,6 @@
 // The calls of a host program in C, 01, "Refusal numbers": on byte slices and numbers, each answered by one 64-bit number.
+#![tactic(auto)]
+
 ghost use Rattle.std.specs.Prelude.{◌≡◌, ◌*◌, ◌≤◌, length};
 ghost use Rattle.std.proofs.lemmas.List.Edits.{sets};
 ghost use Rattle.refusals.specs.Table.{answer_word};

@@ -1,4 +1,6 @@
 // The machine of 01, "The machine": a state by value, its start and the moves of its two sides.
+#![tactic(auto)]
+
 ghost use Rattle.std.specs.Prelude.{◌≡◌, cond, [], ◌<◌};
 ghost use Rattle.words.specs.Words.{eight};
 ghost use Rattle.control.specs.Simpson.{simpson};
@@ -10,7 +12,7 @@ use refusals::{Answer, Fault};
 
 // The control part, the words of the four slots, the item that the writer has taken in, and the words that the reader has loaded.
 // Word k of the slot (pair, index) stands at 16 * pair + 8 * index + k.
-#[derive(Drop)]
+#[derive(Clone, Copy)]
 pub struct State {
     pub control: Control,
     pub slots: [u32; 32],
@@ -19,7 +21,7 @@ pub struct State {
 }
 
 // A move's answer and event, the item of a write called or a read returned, zeros otherwise, and the state after it.
-#[derive(Drop)]
+#[derive(Clone, Copy)]
 pub struct Moved {
     pub answer: Answer,
     pub happened: Happened,
@@ -28,7 +30,7 @@ pub struct Moved {
 }
 
 // A start's answer, and the machine.
-#[derive(Drop)]
+#[derive(Clone, Copy)]
 pub struct Started {
     pub answer: Answer,
     pub state: State,

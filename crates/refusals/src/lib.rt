@@ -1,10 +1,12 @@
 // The table of 01, "Refusal numbers": why a call is refused, what it answers, and the one word that a host is answered.
+#![tactic(auto)]
+
 ghost use Rattle.std.specs.Prelude.{◌≡◌};
 ghost use Rattle.refusals.specs.Table.{fault_number, answer_number, answer_place, answer_word};
 ghost use Rattle.refusals.specs.Output.{room_answer};
 
 // Why a call is refused, in the table's order.
-#[derive(Drop)]
+#[derive(Clone, Copy)]
 pub enum Fault {
     Long,
     Cut,
@@ -21,7 +23,7 @@ pub enum Fault {
 }
 
 // What a call answers: accepted, with the place that the table gives or the bytes that a reader took; or refused at a place.
-#[derive(Drop)]
+#[derive(Clone, Copy)]
 pub enum Answer {
     Accepted { place: u32 },
     Refused { fault: Fault, place: u32 },

@@ -1,0 +1,28 @@
+-- `machine::loaded` meets its contract.
+use native.Mathlib.Omega.{arith}
+use Rattle.machine.proofs.Words.{word_within}
+use Rattle.machine.proofs.Slots.{touched_within}
+use Rattle.machine.proofs.loaded.Goals as goal
+
+pub overflow_cast-k : goal.overflow_cast-k
+overflow_cast-k c = omega (arith, word_within c.requires c.in-Word.is)
+
+pub offset_bounds-slots-at : goal.offset_bounds-slots-at
+offset_bounds-slots-at c =
+    let core = c.args.core in
+    omega
+    (arith, touched_within core.pair core.index c.requires c.in-Word.is c.slot_word-at.ensures)
+
+pub bounds-slots-at : goal.bounds-slots-at
+bounds-slots-at c =
+    let core = c.args.core in
+    touched_within core.pair core.index c.requires c.in-Word.is c.slot_word-at.ensures
+
+pub offset_bounds-after-k : goal.offset_bounds-after-k
+offset_bounds-after-k c = omega (arith, word_within c.requires c.in-Word.is)
+
+pub bounds-after-k : goal.bounds-after-k
+bounds-after-k c = word_within c.requires c.in-Word.is
+
+pub returns-in-Word : goal.returns-in-Word
+returns-in-Word c = rw (c.in-Word.is, c.slot_word-at.ensures)
