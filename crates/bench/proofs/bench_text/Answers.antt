@@ -16,14 +16,14 @@ slice_bounds-log-end c =
     let bytes : Below 256 c.args.moves.now = λ i. omega (arith, c.type_inv.moves i) in
     let runs = c.run-answer.ensures in
     let is = c.in-Accepted.is in
-    omega (arith, log_within _ (bytes) runs is, filled_length _ (bytes) runs is)
+    omega (arith, log_within _ bytes runs is, filled_length _ bytes runs is)
 
 pub slice_bounds-log_text-end : goal.slice_bounds-log_text-end
 slice_bounds-log_text-end c =
     let bytes : Below 256 c.args.moves.now = λ i. omega (arith, c.type_inv.moves i) in
-    sym (length-take-le _ _ ((let runs = c.run-answer.ensures in let is = c.in-Accepted.is in omega (arith, log_within _ (bytes) runs is, filled_length _ (bytes) runs is))))
+    sym (length-take-le _ _ ((let runs = c.run-answer.ensures in let is = c.in-Accepted.is in omega (arith, log_within _ bytes runs is, filled_length _ bytes runs is))))
 
 pub returns : goal.returns
 returns c =
     let bytes : Below 256 c.args.moves.now = λ i. omega (arith, c.type_inv.moves i) in
-    text_ran _ (bytes) c.run-answer.ensures c.in-Accepted.is c.log_text.ensures
+    text_ran _ bytes c.run-answer.ensures c.in-Accepted.is c.log_text.ensures

@@ -38,7 +38,7 @@ loop-k-preserved c =
 pub returns-else-k-lt8 : goal.returns-else-k-lt8
 returns-else-k-lt8 c =
     let i = c.loop-k.invariant in
-    i.3 ∙ first_all _ _ _ i.0 (c.if-k-lt8.false) i.1
+    i.3 ∙ first_all _ _ _ i.0 c.if-k-lt8.false i.1
 
 pub returns-after-loop-k : goal.returns-after-loop-k
 returns-after-loop-k c =
