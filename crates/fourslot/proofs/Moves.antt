@@ -9,7 +9,7 @@ use Rattle.control.specs.declared.Happened.TheVariants.{NoEvent, Called, Returne
 use Rattle.control.specs.declared.Touched.TheVariants.{Nothing, Word}
 use Rattle.control.specs.Simpson.{slot_at, set_pair, set_index, set_slot, set_latest, set_reading, Writer, Reader, simpson}
 use Rattle.control.specs.Step.{does, at_phase, sound, accepted, step}
-use Rattle.control.proofs.Lists.{write_length, read_length, writing_pair, writing_index, writing_word, writing_slot, writing_latest, reading_pair, reading_announce, reading_index, reading_word}
+use Rattle.control.proofs.Lists.{write_length, read_length, writing_pair, writing_index, writing_word, writing_slot, writing_latest, reading_takes_pair, reading_announce, reading_index, reading_word}
 use Rattle.control.proofs.Steps.{step_first, step_between, step_last}
 
 -- The control part after each move of a write: pair, index, word, slot, latest.
@@ -69,7 +69,7 @@ module _ (c : Control) (h : sound simpson c ≡ true) where
       sym (step_last simpson Writer c h action (write_length c.n) (omega arith) (omega arith))
 
   pub take_move : c.reader.phase ≡ 0 → step simpson Reader c ≡ accepted Called Nothing (latest_taken c)
-  take_move e = sym (step_first simpson Reader c h (reading_pair c.n c.reader.phase e) (read_length c.n) e (omega arith))
+  take_move e = sym (step_first simpson Reader c h (reading_takes_pair c.n c.reader.phase e) (read_length c.n) e (omega arith))
 
   pub announce_move : c.reader.phase ≡ 1 → step simpson Reader c ≡ accepted NoEvent Nothing (pair_announced c)
   announce_move e =

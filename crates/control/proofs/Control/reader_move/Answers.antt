@@ -2,7 +2,7 @@
 use native.Mathlib.Omega.{arith}
 use mathlib.Core.Path.{refl, sym, ◌∙◌}
 use Rattle.control.specs.Simpson.{Reader, simpson}
-use Rattle.control.proofs.Lists.{read_length, reading_pair, reading_announce, reading_index, reading_word}
+use Rattle.control.proofs.Lists.{read_length, reading_takes_pair, reading_announce, reading_index, reading_word}
 use Rattle.control.proofs.Sound.{sound_is, tested_sound, tested_unsound}
 use Rattle.control.proofs.Always.{else_refused}
 use Rattle.control.proofs.Steps.{step_first, step_between, step_last}
@@ -20,7 +20,7 @@ pub returns-in-0 : goal.returns-in-0
 returns-in-0 c =
     let h = tested_sound _ _ c.sound.ensures (ap not c.if-not-sound.false) in
     rw (c.reader_at.ensures, c.pair_latest.ensures)
-    (step_first simpson Reader _ h (reading_pair _ _ (omega arith)) (read_length _) (omega arith) (omega arith))
+    (step_first simpson Reader _ h (reading_takes_pair _ _ (omega arith)) (read_length _) (omega arith) (omega arith))
 
 pub returns-in-1 : goal.returns-in-1
 returns-in-1 c =
