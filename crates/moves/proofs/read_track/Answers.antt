@@ -3,6 +3,10 @@ use native.Mathlib.Omega.{arith}
 use Rattle.moves.proofs.Steps.{track_ends, track_read, track_refused}
 use Rattle.moves.proofs.read_track.Goals as goal
 
+pub returns-in-Value : goal.returns-in-Value
+returns-in-Value c =
+    track_read _ _ _ c.count-r.ensures c.in-Value.is c.moves_at.ensures
+
 pub overflow_cast-used : goal.overflow_cast-used
 overflow_cast-used c =
     let read = c.count-r.ensures in
@@ -19,10 +23,6 @@ pub moves_at-requires : goal.moves_at-requires
 moves_at-requires c =
     let read = c.count-r.ensures in
     (track_ends c.args.last c.args.at c.args.s.now read c.requires.0 c.in-Value.is, c.requires.1)
-
-pub returns-in-Value : goal.returns-in-Value
-returns-in-Value c =
-    track_read _ _ _ c.count-r.ensures c.in-Value.is c.moves_at.ensures
 
 pub returns-in-Bad : goal.returns-in-Bad
 returns-in-Bad c =
