@@ -1,9 +1,9 @@
--- The printed case of 01 is the text of its move file, by computation.
+-- The run that is printed in full is the text of its move file, by computation.
 -- Assumes nothing.
 use Prim.Native.Nat.{ℕ}
 use mathlib.Core.Path.{refl}
 use mathlib.Core.List.{List, [], ◌∷◌}
-use Rattle.refusals.specs.declared.Answer.TheVariants.{Accepted}
+use Rattle.std.specs.Prelude.{Ok}
 use Rattle.words.specs.Words.{eight}
 use Rattle.numbers.specs.Number.{bytes_in}
 use Rattle.numbers.specs.Reading.{bytes_of_all}
@@ -30,7 +30,7 @@ items = eight (0 ∷ []) ∷ eight (7 ∷ []) ∷ eight (8 ∷ []) ∷ []
 abbrev reads : List Read
 reads = record { number = 1; low = 1; high = 2; item = eight (8 ∷ []) } ∷ []
 
-judged : Judgement (Accepted 0) items reads 2048 (Accepted 1) (2 ∷ [])
+judged : Judgement (Ok 0) items reads 2048 (Ok 1) (2 ∷ [])
 unfolding told_of
 judged = lawful 0 refl (told_right items reads 2048)
 

@@ -1,9 +1,11 @@
--- 01, "Marked examples": "For P6, whose input is 01 00 02 07 08 0d 00 00 00 00 00 01 00 00 00 01 00 01 01, all it prints is" these lines.
+-- One run in full: a move file of one-word items, in which a read that begins after 7 is written
+-- returns the 8 of a write that is called during it; and all that the bench program prints of it.
 use Rattle.std.specs.Prelude.{ℕ, List, [], ◌∷◌}
 
 abbrev pub sixth : List ℕ
 sixth =
-    0x01 ∷ 0x00 ∷ 0x02 ∷ 0x07 ∷ 0x08 ∷ 0x0d ∷ 0x00 ∷ 0x00 ∷ 0x00 ∷ 0x00 ∷ 0x00 ∷ 0x01 ∷ 0x00 ∷ 0x00 ∷ 0x00 ∷ 0x01 ∷ 0x00 ∷ 0x01 ∷ 0x01 ∷ []
+    0x01 ∷ 0x00 ∷ 0x02 ∷ 0x07 ∷ 0x08 ∷ 0x0d ∷ 0x00 ∷ 0x00 ∷ 0x00 ∷ 0x00 ∷ 0x00 ∷ 0x01 ∷ 0x00 ∷ 0x00
+    ∷ 0x00 ∷ 0x01 ∷ 0x00 ∷ 0x01 ∷ 0x01 ∷ []
 
 abbrev pub sixth_text : List ℕ
 sixth_text =

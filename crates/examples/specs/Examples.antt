@@ -1,13 +1,17 @@
 -- 01, "Marked examples": "Those marked P are proved. Bytes are in hex; logs have n = 1 and initial 0 where not stated."
-use Rattle.std.specs.Prelude.{ℕ, ◌≡◌, List, [], ◌∷◌, ◌++◌, length, drop, replicate}
+use Rattle.std.specs.Prelude.{ℕ, ◌≡◌, List, [], ◌∷◌, ◌++◌, length, drop, replicate, Ok}
 use Rattle.refusals.specs.declared.Fault.{Fault}
 use Rattle.refusals.specs.declared.Fault.TheVariants.{Cut, Form, Turn, NoPlace}
-use Rattle.refusals.specs.declared.Answer.{Answer}
-use Rattle.refusals.specs.declared.Answer.TheVariants.{Accepted, Refused}
+use Rattle.refusals.specs.Table.{Answer, refusal_at}
 use Rattle.words.specs.Words.{eight}
-use Rattle.numbers.specs.declared.Num.TheVariants.{Value}
 use Rattle.numbers.specs.Number.{number_of, answer_of, bytes_of}
-use Rattle.history.specs.Event.{Event, CW, RW, CR, RR}
+use Rattle.history.specs.declared.Event.{Event}
+use Rattle.history.specs.declared.Event.TheVariants.{
+  WriteCalled,
+  WriteReturned,
+  ReadCalled,
+  ReadReturned,
+}
 use Rattle.event_log.specs.Log.{log_bytes}
 use Rattle.placing.specs.Judgement.{Judges}
 use Rattle.runs.specs.Run.{Runs}
@@ -40,12 +44,12 @@ begun front = front ++ drop (length front) lent
 -- promises, and `Judges` what `judge` does; a refusal leaves what is lent as it was. Each allows one outcome only (`Judges` by the law
 -- `judges_unique` of `placing`), so P8's entry is 2 and not 1.
 abbrev pub Holds : Example → Type 0
-Holds (number v bytes) = (bytes_of v ≡ bytes) × (number_of bytes ≡ Value v (length bytes))
-Holds (no_number bytes fault) = answer_of (number_of bytes) ≡ Refused fault 0
-Holds (no_file s fault place) = Runs s lent (Refused fault place) lent × Judges s lent (Refused fault place) lent
+Holds (number v bytes) = (bytes_of v ≡ bytes) × (number_of bytes ≡ Ok (v, length bytes))
+Holds (no_number bytes fault) = answer_of (number_of bytes) ≡ refusal_at fault 0
+Holds (no_file s fault place) = Runs s lent (refusal_at fault place) lent × Judges s lent (refusal_at fault place) lent
 Holds (ran moves es log placing) =
-    (log_bytes 1 (one 0) es ≡ log) × Runs moves lent (Accepted (length log)) (begun log)
-    × Judges log lent (Accepted (length placing)) (begun placing)
+    (log_bytes 1 (one 0) es ≡ log) × Runs moves lent (Ok (length log)) (begun log)
+    × Judges log lent (Ok (length placing)) (begun placing)
 Holds (judged initial es log answer entries) = (log_bytes 1 (one initial) es ≡ log) × Judges log lent answer (begun entries)
 
 abbrev pub marked : List Example
@@ -66,45 +70,49 @@ marked =
     -- P4 "items 7 7, moves five writer, four reader: log 01 00 04 00 07 01 02 03 07, placing 1."
     ∷ ran
     (1 ∷ 0 ∷ 2 ∷ 7 ∷ 7 ∷ 9 ∷ 0 ∷ 0 ∷ 0 ∷ 0 ∷ 0 ∷ 1 ∷ 1 ∷ 1 ∷ 1 ∷ [])
-    (CW (one 7) ∷ RW ∷ CR ∷ RR (one 7) ∷ [])
+    (WriteCalled (one 7) ∷ WriteReturned ∷ ReadCalled ∷ ReadReturned (one 7) ∷ [])
     (1 ∷ 0 ∷ 4 ∷ 0 ∷ 7 ∷ 1 ∷ 2 ∷ 3 ∷ 7 ∷ [])
     (1 ∷ [])
     -- P5 "item 7, moves reader, five writer, three reader: CR, CW 7, RW, RR 0; placing 0."
     ∷ ran
     (1 ∷ 0 ∷ 1 ∷ 7 ∷ 9 ∷ 1 ∷ 0 ∷ 0 ∷ 0 ∷ 0 ∷ 0 ∷ 1 ∷ 1 ∷ 1 ∷ [])
-    (CR ∷ CW (one 7) ∷ RW ∷ RR (one 0) ∷ [])
+    (ReadCalled ∷ WriteCalled (one 7) ∷ WriteReturned ∷ ReadReturned (one 0) ∷ [])
     (1 ∷ 0 ∷ 4 ∷ 2 ∷ 0 ∷ 7 ∷ 1 ∷ 3 ∷ 0 ∷ [])
     (0 ∷ [])
     -- P6 "items 7 8, moves five writer, reader, three writer, reader, writer, reader, reader: log 01 00 05 00 07 01 02 00 08 03 08,
     -- placing 2 while write 2 is open."
     ∷ ran
     (1 ∷ 0 ∷ 2 ∷ 7 ∷ 8 ∷ 13 ∷ 0 ∷ 0 ∷ 0 ∷ 0 ∷ 0 ∷ 1 ∷ 0 ∷ 0 ∷ 0 ∷ 1 ∷ 0 ∷ 1 ∷ 1 ∷ [])
-    (CW (one 7) ∷ RW ∷ CR ∷ CW (one 8) ∷ RR (one 8) ∷ [])
+    (WriteCalled (one 7) ∷ WriteReturned ∷ ReadCalled ∷ WriteCalled (one 8) ∷ ReadReturned (one 8)
+    ∷ [])
     (1 ∷ 0 ∷ 5 ∷ 0 ∷ 7 ∷ 1 ∷ 2 ∷ 0 ∷ 8 ∷ 3 ∷ 8 ∷ [])
     (2 ∷ [])
     -- P7 "CW 7, RW, CR, RR 0: NO PLACE, read 1."
-    ∷ judged 0 (CW (one 7) ∷ RW ∷ CR ∷ RR (one 0) ∷ [])
+    ∷ judged 0 (WriteCalled (one 7) ∷ WriteReturned ∷ ReadCalled ∷ ReadReturned (one 0) ∷ [])
     (1 ∷ 0 ∷ 4 ∷ 0 ∷ 7 ∷ 1 ∷ 2 ∷ 3 ∷ 0 ∷ [])
-    (Refused NoPlace 1) []
+    (refusal_at NoPlace 1) []
     -- P8 "CW 7, RW, CW 7, RW, CR, RR 7: placing 2, not 1."
-    ∷ judged 0 (CW (one 7) ∷ RW ∷ CW (one 7) ∷ RW ∷ CR ∷ RR (one 7) ∷ [])
+    ∷ judged 0 (WriteCalled (one 7) ∷ WriteReturned ∷ WriteCalled (one 7) ∷ WriteReturned
+    ∷ ReadCalled ∷ ReadReturned (one 7) ∷ [])
     (1 ∷ 0 ∷ 6 ∷ 0 ∷ 7 ∷ 1 ∷ 0 ∷ 7 ∷ 1 ∷ 2 ∷ 3 ∷ 7 ∷ [])
-    (Accepted 1) (2 ∷ [])
+    (Ok 1) (2 ∷ [])
     -- P9 "CW 7, CR, RR 7, CR, RR 0: NO PLACE, read 2."
-    ∷ judged 0 (CW (one 7) ∷ CR ∷ RR (one 7) ∷ CR ∷ RR (one 0) ∷ [])
+    ∷ judged 0 (WriteCalled (one 7) ∷ ReadCalled ∷ ReadReturned (one 7) ∷ ReadCalled
+    ∷ ReadReturned (one 0) ∷ [])
     (1 ∷ 0 ∷ 5 ∷ 0 ∷ 7 ∷ 2 ∷ 3 ∷ 7 ∷ 2 ∷ 3 ∷ 0 ∷ [])
-    (Refused NoPlace 2) []
+    (refusal_at NoPlace 2) []
     -- P10 "initial 7: CR, CW 8, RW, CW 7, RR 7, CR, RR 8: placing 0 then 1. The newest fit for the first read spoils the second." (What
     -- the newest fit would answer is refuted by the law `newest_fit_refused` of `placing`.)
-    ∷ judged 7 (CR ∷ CW (one 8) ∷ RW ∷ CW (one 7) ∷ RR (one 7) ∷ CR ∷ RR (one 8) ∷ [])
+    ∷ judged 7 (ReadCalled ∷ WriteCalled (one 8) ∷ WriteReturned ∷ WriteCalled (one 7)
+    ∷ ReadReturned (one 7) ∷ ReadCalled ∷ ReadReturned (one 8) ∷ [])
     (1 ∷ 7 ∷ 7 ∷ 2 ∷ 0 ∷ 8 ∷ 1 ∷ 0 ∷ 7 ∷ 3 ∷ 7 ∷ 2 ∷ 3 ∷ 8 ∷ [])
-    (Accepted 2) (0 ∷ 1 ∷ [])
+    (Ok 2) (0 ∷ 1 ∷ [])
     -- P11 "no events: accepted, no entries."
     ∷ judged 0 []
     (1 ∷ 0 ∷ 0 ∷ [])
-    (Accepted 0) []
+    (Ok 0) []
     -- P12 "RR as first event: TURN at 0."
-    ∷ judged 0 (RR (one 0) ∷ [])
+    ∷ judged 0 (ReadReturned (one 0) ∷ [])
     (1 ∷ 0 ∷ 1 ∷ 3 ∷ 0 ∷ [])
-    (Refused Turn 0) []
+    (refusal_at Turn 0) []
     ∷ []

@@ -1,2 +1,2 @@
-// The marked examples of 01, as one list under one law. No code.
+//! The marked examples, as one list under one law. No code.
 #![tactic(auto)]

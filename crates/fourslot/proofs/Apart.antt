@@ -1,6 +1,7 @@
 -- Both cores never occupy the same slot, and no store falls into the slot of a read that has its index, in every state that a run reaches.
 -- Assumes nothing.
 use Prim.Native.Nat.{ℕ, ◌+◌, ◌-◌, ◌≤◌, ◌<◌}
+use Rattle.std.specs.Prelude.{Some}
 use native.Mathlib.Omega.{arith}
 use native.Mathlib.Decide.{dec_lt}
 use mathlib.Core.Path.{◌≡◌, refl, sym}
@@ -12,7 +13,6 @@ use Rattle.refusals.proofs.Apart.{apart}
 use Rattle.words.specs.Words.{is_width}
 use Rattle.words.proofs.Bounds.{between_true}
 use Rattle.control.specs.declared.Control.{Control}
-use Rattle.control.specs.declared.Touched.TheVariants.{Word}
 use Rattle.control.specs.Simpson.{Writer, Reader, simpson}
 use Rattle.control.specs.Step.{step}
 use Rattle.control.proofs.Occupied.{writer_occupies, reader_occupies}
@@ -75,7 +75,7 @@ words_apart w_index r_index c a l m r same =
     met _ _ _ _ (sym same.0) (sym same.1) (never_met w_index r_index _ _ _ _ _ _ _ _ a.test)
 
 -- A move that stores is made by a writer at its words, and leaves it its slot.
-store_within : (ws : WriterStage) (rs : ReaderStage) (c : Control) (k : ℕ) → At ws rs c → (step simpson Writer c).touched ≡ Word k
+store_within : (ws : WriterStage) (rs : ReaderStage) (c : Control) (k : ℕ) → At ws rs c → (step simpson Writer c).touched ≡ Some k
     → (2 ≤ c.writer.phase) × (c.writer.phase < 2 + c.n) × (SameSlot (step simpson Writer c).control → SameSlot c)
 store_within w_idle rs c k a e = let t = rw (pair_move c (at_sound a) a.writer) at e in apart cc
 store_within w_pair rs c k a e = let t = rw (index_move c (at_sound a) a.writer) at e in apart cc

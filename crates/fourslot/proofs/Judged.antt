@@ -5,17 +5,16 @@ use native.Mathlib.Omega.{arith}
 use mathlib.Core.Path.{◌≡◌, refl, sym, ap, ◌∙◌}
 use mathlib.Core.List.{List}
 use lib.ListN.{length, take}
-use Rattle.refusals.specs.declared.Answer.{Answer}
-use Rattle.refusals.specs.declared.Answer.TheVariants.{Accepted}
+use Rattle.refusals.specs.Table.{Answer}
+use Rattle.std.specs.Prelude.{Ok}
 use Rattle.refusals.proofs.Apart.{apart}
 use Rattle.words.specs.Words.{Below, Fits}
-use Rattle.history.specs.Event.{Event}
+use Rattle.history.specs.declared.Event.{Event}
 use Rattle.history.specs.Reads.{reads_of}
 use Rattle.history.specs.Placing.{Placing}
 use Rattle.history.specs.Verdict.{faulty, lawful}
 use Rattle.history.proofs.Verdicts.{verdict_placed, judgement_length, judgement_earliest}
-use Rattle.moves.specs.declared.MoveFile.{MoveFile}
-use Rattle.moves.specs.MoveFile.{move_file_of, items_of, moves_of}
+use Rattle.moves.specs.MoveFile.{FileRead, move_file_of, items_of, moves_of}
 use Rattle.moves.proofs.Forms.{file_form}
 use Rattle.control.specs.Simpson.{simpson}
 use Rattle.runs.specs.Run.{Ran, four_slots, outcome, four_log}
@@ -42,7 +41,7 @@ log_placed s es bs ran =
       placing = of_log (run_log_accepted s es bs ran) form.fits t.numbers t.placing;
     }
   where
-    f : MoveFile
+    f : FileRead
     f = move_file_of 24576 1 s
 
     of_log : RunLog s es (four_log s) → Fits f.n f.initial → (qs : List ℕ)
@@ -50,9 +49,9 @@ log_placed s es bs ran =
         → Placing (items_from (four_log s)) (reads_of (events_from (four_log s))) (length (reads_of (events_from (four_log s)))) qs
     of_log log fits qs p = rw (log.spells, log.initial, fits.zeros) p
 
-pub judged : (log : List ℕ) {room : ℕ} {answer : Answer} {entries qs : List ℕ} → (log_from log).answer ≡ Accepted (length log)
+pub judged : (log : List ℕ) {room : ℕ} {answer : Answer} {entries qs : List ℕ} → (log_from log).answer ≡ Ok (length log)
     → length (reads_of (events_from log)) ≤ room → Placing (items_from log) (reads_of (events_from log)) (length (reads_of (events_from log))) qs
-    → JudgementOf log room answer entries → answer ≡ Accepted (length (reads_of (events_from log)))
+    → JudgementOf log room answer entries → answer ≡ Ok (length (reads_of (events_from log)))
 judged log e room q (faulty f p g _ _) = apart cc
 judged log e room q (lawful end _ v) = verdict_placed room q v
 

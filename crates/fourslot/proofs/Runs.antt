@@ -1,6 +1,7 @@
 -- The invariant along a run: its finished reads have true numbers, and these are a placing of its events.
 -- Assumes nothing.
 use Prim.Native.Nat.{ℕ, suc, ◌+◌, ◌-◌, ◌≤◌, ◌<◌}
+use Rattle.std.specs.Prelude.{Option, Some, None}
 use native.Mathlib.Nat.{le_refl, add-zero}
 use native.Mathlib.Numerals.{add-one}
 use native.Mathlib.Omega.{arith}
@@ -13,16 +14,17 @@ use lib.Seq.{get_or-drop, drop-drop}
 use lib.Dec.{eqb}
 use borrow.Table.Steps.{cases}
 use Rattle.control.specs.declared.Happened.{Happened}
-use Rattle.control.specs.declared.Happened.TheVariants.{NoEvent, Called, Returned}
+use Rattle.control.specs.declared.Happened.TheVariants.{Called, Returned}
 use Rattle.control.specs.declared.Step.{Step}
 use Rattle.control.specs.Simpson.{Writer, Reader, simpson}
 use Rattle.control.specs.Step.{step}
 use Rattle.machine.specs.declared.State.{State}
 use Rattle.machine.specs.Machine.{writer_after, reader_after}
 use Rattle.history.specs.declared.Kind.TheVariants.{WriteCalled, WriteReturned, ReadCalled, ReadReturned}
-use Rattle.history.specs.Event.{Event, event, kind_of}
+use Rattle.history.specs.declared.Event.{Event}
+use Rattle.history.specs.Event.{event, kind_of}
 use Rattle.history.specs.Reads.{written, reads_after}
-use Rattle.runs.specs.Run.{Ran, run, of_writer, of_reader, writes, reads, four_slots}
+use Rattle.runs.specs.Run.{Ran, run, of_writer, of_reader, writes, reads, four_slots, item_beside}
 use Rattle.runs.proofs.Runs.{Deal, Took, Skipped, run_all, run_on}
 use Rattle.fourslot.specs.Tags.{Tags, Tagged, tag_store, tag_load, with_tags}
 use Rattle.fourslot.proofs.Control.{WriterStage, w_idle, w_pair, w_index, w_set, ReaderStage, r_idle, r_pair, r_announced, r_index}
@@ -42,15 +44,15 @@ deal_beside s t code items x left (Took h l) = Took h l
 deal_beside s t code items x left (Skipped h z l) = Skipped h z l
 
 -- A move's events, with other words.
-write_words : (h : Happened) (x y : List ℕ) → map (λ e. event (kind_of e) y) (of_writer h x) ≡ of_writer h y
-write_words NoEvent x y = refl
-write_words Called x y = refl
-write_words Returned x y = refl
+write_words : (h : Option Happened) (x y : List ℕ) → map (λ e. event (kind_of e) y) (of_writer h x) ≡ of_writer h y
+write_words None x y = refl
+write_words (Some Called) x y = refl
+write_words (Some Returned) x y = refl
 
-read_words : (h : Happened) (x y : List ℕ) → map (λ e. event (kind_of e) y) (of_reader h x) ≡ of_reader h y
-read_words NoEvent x y = refl
-read_words Called x y = refl
-read_words Returned x y = refl
+read_words : (h : Option Happened) (x y : List ℕ) → map (λ e. event (kind_of e) y) (of_reader h x) ≡ of_reader h y
+read_words None x y = refl
+read_words (Some Called) x y = refl
+read_words (Some Returned) x y = refl
 
 -- The first of what is left of a list.
 drop_first : (m : ℕ) (all : List (List ℕ)) (x : List ℕ) (xs : List (List ℕ)) → drop m all ≡ x ∷ xs
@@ -91,7 +93,7 @@ module _ (all : List (List ℕ)) where
     unfolding writer_after
     tagged_write st t k fs e q r =
         run_on (with_tags simpson) (beside s t) items code codes x left k (deal_beside s t code items x left d)
-        ∙ rw (e, q, r, write_words st.happened (writer_after st s x).item (replicate 8 (tag_store st t).called))
+        ∙ rw (e, q, r, write_words st.happened (item_beside (writer_after st s x).item) (replicate 8 (tag_store st t).called))
 
     -- What a move of the writer adds, where this is its step.
     abbrev Writing : Tags → Ghost → ℕ → ℕ → ℕ → Step → Type 0
@@ -181,7 +183,7 @@ module _ (all : List (List ℕ)) where
     unfolding reader_after
     tagged_read st t k fs e q r =
         run_on (with_tags simpson) (beside s t) items code codes x left k (deal_beside s t code items x left d)
-        ∙ rw (e, q, r, read_words st.happened (reader_after st s).item (tag_load st t).loaded)
+        ∙ rw (e, q, r, read_words st.happened (item_beside (reader_after st s).item) (tag_load st t).loaded)
 
     -- What a move of the reader adds, where this is its step.
     abbrev Reading : Tags → Ghost → ℕ → ℕ → ℕ → Step → Type 0

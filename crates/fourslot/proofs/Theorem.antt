@@ -12,7 +12,7 @@ use Rattle.words.proofs.Bounds.{between_true}
 use Rattle.machine.specs.Machine.{first_words, slot_word, in_all_four, idle_state}
 use Rattle.machine.proofs.Slots.{slots_within, four_hold}
 use Rattle.machine.proofs.Words.{four_length, fresh_width}
-use Rattle.history.specs.Event.{Event}
+use Rattle.history.specs.declared.Event.{Event}
 use Rattle.history.specs.Reads.{written, reads_of}
 use Rattle.history.proofs.Counts.{high_written}
 use Rattle.fourslot.specs.Tags.{untouched, TrueNumbers}

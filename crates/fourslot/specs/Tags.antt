@@ -7,7 +7,8 @@ use Rattle.control.specs.Simpson.{Writer, Reader, Procedures}
 use Rattle.control.specs.Step.{step}
 use Rattle.machine.specs.declared.State.{State}
 use Rattle.machine.specs.Machine.{is_call, stored, loaded}
-use Rattle.history.specs.Event.{Event, event, kind_of}
+use Rattle.history.specs.declared.Event.{Event}
+use Rattle.history.specs.Event.{event, kind_of}
 use Rattle.history.specs.Reads.{reads_of}
 use Rattle.history.specs.Placing.{read_at}
 use Rattle.runs.specs.Run.{Bench, four_slots}

@@ -1,14 +1,13 @@
 -- What is shown of every run of the four slots from fresh, for every width, initial item, items and list of moves.
-use Rattle.std.specs.Prelude.{ℕ, ◌≤◌, ◌<◌, ◌≡◌, true, List, [], map, length, get_or, take}
-use Rattle.refusals.specs.declared.Answer.{Answer}
-use Rattle.refusals.specs.declared.Answer.TheVariants.{Accepted}
+use Rattle.std.specs.Prelude.{ℕ, ◌≤◌, ◌<◌, ◌≡◌, true, List, [], map, length, get_or, take, Some, Ok}
+use Rattle.refusals.specs.Table.{Answer}
 use Rattle.words.specs.Words.{Below, is_width}
 use Rattle.control.specs.declared.Control.{Control}
-use Rattle.control.specs.declared.Touched.TheVariants.{Word}
 use Rattle.control.specs.Simpson.{Writer, Reader, simpson}
 use Rattle.control.specs.Step.{step, occupies}
 use Rattle.machine.specs.Machine.{first_words}
-use Rattle.history.specs.Event.{Event, kind_of}
+use Rattle.history.specs.declared.Event.{Event}
+use Rattle.history.specs.Event.{kind_of}
 use Rattle.history.specs.Reads.{written, numbered, reads_of}
 use Rattle.history.specs.Placing.{read_at, Placing, Earliest}
 use Rattle.moves.specs.MoveFile.{move_file_of}
@@ -66,7 +65,7 @@ SameSlot c = (c.writer.pair ≡ c.reader.pair) × (c.writer.index ≡ c.reader.i
 -- read that has its index, which it has after its opening moves.
 pub record Apart (c : Control) : Type 0 where
   pub occupied : occupies simpson Writer c ≡ true → occupies simpson Reader c ≡ true → SameSlot c → ⊥
-  pub stored : (k : ℕ) → (step simpson Writer c).touched ≡ Word k → length (simpson Reader c.n).opening ≤ c.reader.phase
+  pub stored : (k : ℕ) → (step simpson Writer c).touched ≡ Some k → length (simpson Reader c.n).opening ≤ c.reader.phase
       → SameSlot (step simpson Writer c).control → ⊥
 
 abbrev pub CoresApart : Type 0
@@ -77,9 +76,9 @@ CoresApart =
 -- Where `run` accepts a move file and writes its log, `judge` of that log, with an entry for each finished read, accepts.
 abbrev pub RunJudged : Type 0
 RunJudged =
-    (moves out filled entries after : List ℕ) (k : ℕ) (answer : Answer) → Below 256 moves → Runs moves out (Accepted k) filled
+    (moves out filled entries after : List ℕ) (k : ℕ) (answer : Answer) → Below 256 moves → Runs moves out (Ok k) filled
     → Judges (take k filled) entries answer after → length (reads_of (events_from (take k filled))) ≤ length entries
-    → answer ≡ Accepted (length (reads_of (events_from (take k filled))))
+    → answer ≡ Ok (length (reads_of (events_from (take k filled))))
 
 -- The true numbers of the run of a move file.
 pub record TrueNumbersOf (moves numbers : List ℕ) : Type 0 where
@@ -90,6 +89,6 @@ pub record TrueNumbersOf (moves numbers : List ℕ) : Type 0 where
 -- Such a run has true numbers, and 02, #104: "the judge's entry never exceeds the true one".
 abbrev pub EntriesAtMostTrue : Type 0
 EntriesAtMostTrue =
-    (moves out filled entries after : List ℕ) (k r : ℕ) → Below 256 moves → Runs moves out (Accepted k) filled
-    → Judges (take k filled) entries (Accepted r) after
+    (moves out filled entries after : List ℕ) (k r : ℕ) → Below 256 moves → Runs moves out (Ok k) filled
+    → Judges (take k filled) entries (Ok r) after
     → (numbers : List ℕ) × TrueNumbersOf moves numbers × ((j : ℕ) → j < r → get_or after j 0 ≤ get_or numbers j 0)

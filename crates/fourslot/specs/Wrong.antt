@@ -2,7 +2,7 @@
 -- each with a move file whose log has NO PLACE.
 use Rattle.std.specs.Prelude.{ℕ, ◌≡◌, not, List, [], ◌∷◌, ◌++◌, replicate}
 use Rattle.refusals.specs.declared.Fault.TheVariants.{NoPlace}
-use Rattle.refusals.specs.declared.Answer.TheVariants.{Refused}
+use Rattle.refusals.specs.Table.{refusal_at}
 use Rattle.numbers.specs.Reading.{Every}
 use Rattle.control.specs.Simpson.{slot_at, set_pair, set_index, set_slot, set_latest, each_word, Writer, Reader, Procedures, simpson}
 use Rattle.runs.specs.Run.{four_slots, run_log}
@@ -72,7 +72,7 @@ lent = replicate 2 9
 
 -- The run writes this log, and `judge` answers NO PLACE to it.
 abbrev pub GoesWrong : Case → Type 0
-GoesWrong c = (run_log (four_slots c.procedures) 1 c.moves ≡ c.log) × Judges c.log lent (Refused NoPlace c.read) lent
+GoesWrong c = (run_log (four_slots c.procedures) 1 c.moves ≡ c.log) × Judges c.log lent (refusal_at NoPlace c.read) lent
 
 abbrev pub wrongs : List Case
 wrongs =

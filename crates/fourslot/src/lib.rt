@@ -1,2 +1,2 @@
-// Every run of the four slots gets a placing: statements in specs/, their proofs in proofs/. No code.
+//! Every run of the four slots gets a placing: statements in specs/, their proofs in proofs/.
 #![tactic(auto)]

@@ -1,17 +1,21 @@
--- 01, "Refusal numbers": the judge "called by a host program in C, on byte slices and numbers; there an entry is four bytes, lowest
--- first, and room counts whole entries only"; its "answer is one 64-bit number".
+-- The judge that a host program in C calls, on byte slices and numbers: an entry is four bytes,
+-- lowest first, room counts whole entries only, and the answer is one 64-bit number.
 use Rattle.std.specs.Prelude.{ℕ, ◌/◌, ◌%◌, ◌≡◌, List, [], ◌∷◌, length}
 use Rattle.std.proofs.lemmas.List.Edits.{sets}
-use Rattle.refusals.specs.declared.Answer.{Answer}
-use Rattle.refusals.specs.Table.{answer_word}
+use Rattle.refusals.specs.Table.{Answer, answer_word}
 use Rattle.numbers.specs.Reading.{bytes_of_all}
 use Rattle.placing.specs.Judgement.{JudgementOf}
 
--- "four bytes, lowest first"
+-- the four bytes of an entry, lowest first
 abbrev pub four : ℕ → List ℕ
-four entry = entry % 256 ∷ entry / 256 % 256 ∷ entry / 65536 % 256 ∷ entry / 16777216 % 256 ∷ []
+four entry =
+    entry % 256
+    ∷ entry / 256 % 256
+    ∷ entry / 65536 % 256
+    ∷ entry / 16777216 % 256
+    ∷ []
 
--- The word that the judge of some bytes may answer, and what it leaves in a lent output.
+-- the word that the judge of some bytes may answer, and what it leaves in a lent output
 pub record JudgesBytes (s out : List ℕ) (word : ℕ) (after : List ℕ) : Type 0 where
   pub answer : Answer
   pub entries : List ℕ

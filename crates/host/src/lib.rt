@@ -1,4 +1,4 @@
-// The calls of a host program in C, 01, "Refusal numbers": on byte slices and numbers, each answered by one 64-bit number.
+//! The calls of a host program in C: on byte slices, each answered by one 64-bit number.
 #![tactic(auto)]
 
 ghost use Rattle.std.specs.Prelude.{◌≡◌, ◌*◌, ◌≤◌, length};
@@ -9,17 +9,17 @@ ghost use Rattle.numbers.specs.Reading.{bytes_of_all};
 ghost use Rattle.runs.specs.Run.{four_answer, four_log};
 ghost use Rattle.host.specs.Entries.{four, JudgesBytes};
 
+use placing::MOST_READS;
 use refusals::Answer;
 
-// "the count of events (0 to 4,096)": at most half of them finish a read, so more entries are never needed.
-const MOST_READS: usize = 2048;
-
-// Runs a move file into a lent log: the answer of `runner::run`.
+/// Runs a move file into a lent log, and answers the word of what `runner::run` answers. A refusal
+/// leaves the log as it was.
 #[unsafe(no_mangle)]
 pub extern "C" fn kantsufel_run(moves: &[u8], log: &mut [u8]) -> u64
-    ensures { (result ≡ answer_word (four_answer moves.now log.old)) × (log.new ≡ leaves (four_answer moves.now log.old) log.old 0 (four_log moves.now)) }
+    ensures word { result ≡ answer_word (four_answer moves.now log.old) }
+    ensures left { log.new ≡ leaves (four_answer moves.now log.old) log.old 0 (four_log moves.now) }
 {
-    let answer = runner::run(moves, &mut *log);
+    let answer = runner::run(moves, log);
     refusals::answer_word(answer)
 }
 
@@ -28,34 +28,24 @@ fn store_entries(out: &mut [u8], entries: &[u32])
     requires { 4 * length entries.now ≤ length out.old }
     ensures { out.new ≡ sets out.old 0 (bytes_of_all four entries.now) }
 {
-    let mut i: usize = 0;
-    while i < entries.len() {
-        let entry = entries[i];
-        let at = 4 * i;
-        out[at] = (entry % 256) as u8;
-        out[at + 1] = (entry / 256 % 256) as u8;
-        out[at + 2] = (entry / 65536 % 256) as u8;
-        out[at + 3] = (entry / 16777216 % 256) as u8;
-        i += 1;
+    for (i, &entry) in entries.iter().enumerate() {
+        out[4 * i..4 * i + 4].copy_from_slice(&entry.to_le_bytes());
     }
 }
 
-// Judges a log into lent entries of four bytes: the answer of `placing::judge` with room for as many entries as the bytes hold whole.
+/// Judges a log into lent entries of four bytes, lowest first, and answers the word of what
+/// `placing::judge` answers with room for as many entries as the bytes hold whole. A refusal leaves
+/// the bytes as they were.
 #[unsafe(no_mangle)]
 pub extern "C" fn kantsufel_judge(log: &[u8], entries: &mut [u8]) -> u64
     ensures { JudgesBytes log.now entries.old result entries.new }
 {
-    let mut room = entries.len() / 4;
-    if MOST_READS < room {
-        room = MOST_READS;
-    }
+    // No heap, and no log needs more entries.
     let mut placed = [0u32; MOST_READS];
+    let room = MOST_READS.min(entries.len() / 4);
     let answer = placing::judge(log, &mut placed[..room]);
-    let word = refusals::answer_word(answer);
-    let Answer::Accepted { place: _ } = answer else {
-        return word;
-    };
-    let count = refusals::answer_place(answer) as usize;
-    store_entries(entries, &placed[..count]);
-    word
+    if let Ok(place) = answer {
+        store_entries(entries, &placed[..place as usize]);
+    }
+    refusals::answer_word(answer)
 }

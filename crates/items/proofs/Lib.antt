@@ -5,3 +5,4 @@ pub mod Fits
 pub mod HeadForms
 pub mod HeadSteps
 pub mod HeadBytes
+pub mod HeadPlaces

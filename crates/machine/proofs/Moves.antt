@@ -8,33 +8,43 @@ use lib.ListN.{length, take}
 use lib.Dec.{eqb}
 use borrow.Table.Steps.{cases}
 use borrow.Author.Tests.{ne_eqb}
-use Rattle.refusals.specs.declared.Fault.TheVariants as fault
-use Rattle.refusals.specs.declared.Answer.TheVariants.{Accepted, Refused}
+use Rattle.std.specs.Prelude.{Ok, Option, Some, None}
 use Rattle.words.specs.Words.{is_width, eight}
-use Rattle.control.specs.declared.Happened.TheVariants.{NoEvent, Returned}
+use Rattle.control.specs.declared.Happened.{Happened}
+use Rattle.control.specs.declared.Happened.TheVariants.{Returned}
 use Rattle.control.specs.Simpson.{moves, Writer, Reader, Procedures, simpson}
 use Rattle.control.specs.Step.{sound, step}
 use Rattle.control.proofs.Always.{always_moves, else_refused, stays_sound, reader_kept, writer_kept}
 use Rattle.control.proofs.Moves.{idle_sound}
 use Rattle.machine.specs.declared.State.{State}
-use Rattle.machine.specs.declared.Moved.{Moved}
-use Rattle.machine.specs.Machine.{is_call, writer_after, reader_after, writer_move, reader_move, fresh}
+use Rattle.machine.specs.Machine.{first_words, is_call, is_return, refused_move, writer_after, reader_after, writer_move, reader_move, fresh}
 
 -- Each side can always move (001's asynchrony): a sound state is never refused, and stays sound.
 pub writer_always : (ps : Procedures) (s : State) (v : List ℕ) → sound ps s.control ≡ true
-    → ((writer_move ps s v).answer ≡ Accepted 0) × (sound ps (writer_move ps s v).state.control ≡ true)
+    → ((writer_move ps s v).answer ≡ Ok 0) × (sound ps (writer_move ps s v).state.control ≡ true)
 unfolding writer_after
 writer_always ps s v h = (always_moves ps Writer s.control h, stays_sound ps Writer s.control h)
 
 pub reader_always : (ps : Procedures) (s : State) → sound ps s.control ≡ true
-    → ((reader_move ps s).answer ≡ Accepted 0) × (sound ps (reader_move ps s).state.control ≡ true)
+    → ((reader_move ps s).answer ≡ Ok 0) × (sound ps (reader_move ps s).state.control ≡ true)
 unfolding reader_after
 reader_always ps s h = (always_moves ps Reader s.control h, stays_sound ps Reader s.control h)
 
--- "STATE returns the state that came in, with no event."
-abbrev pub refused_move : State → Moved
-refused_move s = record { answer = Refused fault.State 0; happened = NoEvent; item = eight []; state = s }
+-- A move that is not refused, from the state that it leaves and its event.
+pub writer_moved : (s : State) (v : List ℕ) (after : State) {h : Option Happened} → sound simpson s.control ≡ true
+    → after ≡ (writer_move simpson s v).state → h ≡ (writer_move simpson s v).happened
+    → record { answer = Ok 0; happened = h; item = cond (is_call h) (Some after.taken) None; state = after } ≡ writer_move simpson s v
+unfolding writer_after
+writer_moved s v after is_sound is_after is_event = rw (is_after, is_event, always_moves simpson Writer s.control is_sound)
 
+pub reader_moved : (s : State) (after : State) {h : Option Happened} → sound simpson s.control ≡ true
+    → after ≡ (reader_move simpson s).state → h ≡ (reader_move simpson s).happened
+    → record { answer = Ok 0; happened = h; item = cond (is_return h) (Some (first_words s.control.n after.loaded)) None; state = after }
+    ≡ reader_move simpson s
+unfolding reader_after
+reader_moved s after is_sound is_after is_event = rw (is_after, is_event, always_moves simpson Reader s.control is_sound)
+
+-- A move on any other state is refused, and the state that came in is handed back.
 pub writer_refused : (ps : Procedures) (s : State) (v : List ℕ) → sound ps s.control ≡ false → writer_move ps s v ≡ refused_move s
 unfolding writer_after
 writer_refused ps s v h = rw (else_refused ps Writer s.control h)
@@ -51,7 +61,7 @@ not_called ps s busy =
     let m = length (moves (ps Writer s.control.n)) in
     cases (sound ps s.control) (λ h. rw (h, ne_eqb p 0 busy) (later (eqb (p + 1) m))) (λ h. rw h)
   where
-    later : (b : Bool) → is_call (cond b Returned NoEvent) ≡ false
+    later : (b : Bool) → is_call (cond b (Some Returned) None) ≡ false
     later true = refl
     later false = refl
 

@@ -1,45 +1,43 @@
--- One law for each way that a step of reading a move file ends, and where it ends. The steps count places from the file's first byte.
+-- What reading a move file finds, from what each of its readers hands on.
 -- Assumes nothing.
-use mathlib.Core.Path.{◌≡◌, refl, sym, ap, ◌∙◌}
-use mathlib.Core.List.{List, [], ◌∷◌}
-use Prim.Native.Nat.{ℕ, zero, suc, ◌+◌, ◌-◌, ◌≤◌, ◌<◌}
-use native.Mathlib.Nat.{zero-add, add-zero}
-use native.Mathlib.Omega.{arith}
-use lib.ListN.{length, take, drop, length-take, length-drop}
-use lib.Seq.{drop-drop}
+use Rattle.std.proofs.Common.{◌≡◌, ℕ, ◌+◌, ◌-◌, ◌≤◌, ◌<◌, List, [], ◌∷◌, length, drop, Ok, Err, refl, sym, ap, ap₂, ◌∙◌, arith, length-drop}
+use Rattle.std.proofs.Math.Nat.{zero-add, add-zero}
 use Rattle.refusals.specs.declared.Fault.{Fault}
 use Rattle.refusals.specs.declared.Fault.TheVariants.{Code, Count, Trailing}
-use Rattle.refusals.specs.declared.Answer.{Answer}
-use Rattle.refusals.specs.declared.Answer.TheVariants.{Accepted, Refused}
-use Rattle.refusals.specs.Table.{answer_place}
-use Rattle.refusals.proofs.Apart.{apart}
-use Rattle.refusals.proofs.Lists.{part_drop}
-use Rattle.words.specs.Words.{Below}
-use Rattle.numbers.specs.declared.Num.{Num}
-use Rattle.numbers.specs.declared.Num.TheVariants.{Value, Bad}
-use Rattle.numbers.specs.Number.{answer_of, used_of}
-use Rattle.numbers.specs.Reading.{after_number, after_part, parts_end, unless_trailing}
-use Rattle.numbers.proofs.Bounds.{within_used}
+use Rattle.refusals.specs.Table.{Answer, refusal_at, answer_place}
+use Rattle.numbers.specs.Number.{Num, answer_of, used_of}
+use Rattle.numbers.specs.Reading.{unless_trailing}
+use Rattle.numbers.specs.Handed.{handed_number}
+use Rattle.numbers.proofs.Handed.{IsRest, place, rest_of_drop, rest_next, place_of, took, missed, took_number, missed_number, within_inside}
 use Rattle.numbers.proofs.Parts.{parts_within}
-use Rattle.items.specs.declared.Item.{Item}
-use Rattle.items.specs.Item.{item_of}
-use Rattle.items.proofs.Reading.{item_within}
 use Rattle.items.specs.declared.Head.{Head}
-use Rattle.items.specs.Head.{count_of, head_of}
-use Rattle.items.proofs.HeadForms.{head_form}
-use Rattle.moves.specs.declared.MoveFile.{MoveFile}
-use Rattle.moves.specs.declared.Track.{Track}
-use Rattle.moves.specs.MoveFile.{items_ending, code_of, codes_ending, refused_track, moves_at, track_of, refused_file, after_items}
-use Rattle.moves.specs.MoveFile.{after_head, move_file_of}
-use Rattle.moves.specs.Steps.{track_at, no_track, refused_with}
+use Rattle.items.specs.Item.{item_of}
+use Rattle.items.specs.Head.{HeadRead, count_of, head_of, holds, begins}
+use Rattle.items.proofs.Reading.{item_within}
+use Rattle.items.proofs.HeadPlaces.{head_inside, head_short, head_near}
+use Rattle.moves.specs.MoveFile.{
+  FileRead,
+  Track,
+  items_ending,
+  code_of,
+  codes_ending,
+  refused_track,
+  moves_at,
+  track_of,
+  refused_file,
+  after_items,
+  after_head,
+  move_file_of,
+  passed,
+}
 
 -- A track that was read, up to a place of it, and a move file that was.
 abbrev pub track_to : ℕ → ℕ → ℕ → Track
-track_to count at end = record { answer = Accepted end; count = count; at = at }
+track_to count at end = record { answer = Ok end; count = count; at = at }
 
-abbrev pub file_to : Head → ℕ → ℕ → ℕ → ℕ → MoveFile
+abbrev pub file_to : HeadRead → ℕ → ℕ → ℕ → ℕ → FileRead
 file_to h stock moves track end =
-    record { answer = Accepted end; n = h.n; initial = h.initial; items = h.count; stock = stock; moves = moves; track = track }
+    record { answer = Ok end; n = h.n; initial = h.initial; items = h.count; stock = stock; moves = moves; track = track }
 
 -- An item of n words as a part, and a code.
 abbrev pub item_part : ℕ → List ℕ → Answer
@@ -48,27 +46,26 @@ item_part n t = (item_of n t).answer
 abbrev pub code_part : ℕ → List ℕ → Answer
 code_part last t = answer_of (code_of last t)
 
--- How an item that was read ended.
-pub item_end : (n : ℕ) (t : List ℕ) {item : Item} {a : Answer} → item ≡ item_of n t → item.answer ≡ a → item_part n t ≡ a
-item_end n t e is = ap (λ (i : Item). i.answer) (sym e) ∙ is
-
--- How a code that was read ended.
-pub code_end : (last : ℕ) (t : List ℕ) {r x : Num} → r ≡ code_of last t → r ≡ x → code_part last t ≡ answer_of x
-code_end last t e is = ap answer_of (sym e ∙ is)
-
 -- A code ends within the list, and so do codes and items.
-code_within : (last : ℕ) (s : List ℕ) → used_of (code_of last s) ≤ length s
+pub code_within : (last : ℕ) (s : List ℕ) → answer_place (code_part last s) ≤ length s
 code_within last s = go (code_of last s) refl
   where
     go : (r : Num) → code_of last s ≡ r → used_of r ≤ length s
-    go (Value v k) e = within_used 0 last Code s refl e
-    go (Bad f) e = omega arith
+    go (Ok (v, k)) e = within_inside 0 last Code s e
+    go (Err f) e = omega arith
 
 codes_within : (last count : ℕ) (s : List ℕ) → answer_place (codes_ending last count s) ≤ length s
 codes_within last count s = omega (arith, parts_within (code_part last) (code_within last) count 0 s)
 
 items_within : (n count : ℕ) (s : List ℕ) → answer_place (items_ending n count s) ≤ length s
 items_within n count s = omega (arith, parts_within (item_part n) (item_within n) count 0 s)
+
+-- Where codes and items end.
+pub codes_ends : (last count : ℕ) (s : List ℕ) {a : Answer} → codes_ending last count s ≡ a → answer_place a ≤ length s
+codes_ends last count s is = omega (arith, codes_within last count s, ap answer_place is)
+
+pub items_ends : (n count : ℕ) (s : List ℕ) {a : Answer} → items_ending n count s ≡ a → answer_place a ≤ length s
+items_ends n count s is = omega (arith, items_within n count s, ap answer_place is)
 
 -- TRAILING is given where bytes are left, and nowhere else.
 trailing : {R : Type 0} (bad : Fault → ℕ → R) (at : ℕ) (t : List ℕ) (go : R) → 0 < length t → unless_trailing bad at t go ≡ bad Trailing at
@@ -79,225 +76,220 @@ ended : {R : Type 0} (bad : Fault → ℕ → R) (at : ℕ) (t : List ℕ) (go :
 ended bad at [] go h = refl
 ended bad at (b ∷ t) go h = absurd (omega arith)
 
--- Where codes and items end.
-pub codes_ends : (last count : ℕ) (s : List ℕ) {a : Answer} → codes_ending last count s ≡ a → answer_place a ≤ length s
-codes_ends last count s is = omega (arith, codes_within last count s, ap answer_place is)
-
-pub items_ends : (n count : ℕ) (s : List ℕ) {a : Answer} → items_ending n count s ≡ a → answer_place a ≤ length s
-items_ends n count s is = omega (arith, items_within n count s, ap answer_place is)
-
--- A part that stands at a place of the file ends within the file.
-pub part_ends : (at : ℕ) (s : List ℕ) {k : ℕ} → at ≤ length s → k ≤ length (take (length s - at) (drop at s)) → at + k ≤ length s
-part_ends at s h inside =
-    let size : length (take (length s - at) (drop at s)) ≡ length s - at = ap length (part_drop at s) ∙ length-drop at s in
-    omega arith
-
--- Parts that stand at a place of the file: the first is read, and the others stand after it; or it is refused, and ends the reading.
-module _ (part : List ℕ → Answer) (m n at : ℕ) (s : List ℕ) (e : m ≡ suc n) where
-  pub more_at : {k : ℕ} → part (take (length s - at) (drop at s)) ≡ Accepted k
-      → parts_end part m at (drop at s) ≡ parts_end part n (at + k) (drop (at + k) s)
-  unfolding parts_end
-  more_at {k} is =
-      let here : part (drop at s) ≡ Accepted k = rw (part_drop at s) at is in
-      rw (e, here, drop-drop k at s)
-
-  pub parts_end_refused : {f : Fault} {k : ℕ} → part (take (length s - at) (drop at s)) ≡ Refused f k
-      → parts_end part m at (drop at s) ≡ Refused f (at + k)
-  unfolding parts_end
-  parts_end_refused {f} {k} is =
-      let here : part (drop at s) ≡ Refused f k = rw (part_drop at s) at is in
-      rw (e, here)
-
--- An answer whose place is counted from a place of the file, as one of the file.
-abbrev moved : ℕ → Answer → Answer
-moved at (Accepted k) = Accepted (at + k)
-moved at (Refused f k) = Refused f (at + k)
-
-parts_moved : (part : List ℕ → Answer) (m at b : ℕ) (t : List ℕ) → parts_end part m (at + b) t ≡ moved at (parts_end part m b t)
-unfolding parts_end
-parts_moved part zero at b t = refl
-parts_moved part (suc m) at b t = go (part t) (λ k. parts_moved part m at (b + k) (drop k t))
-  where
-    go : (a : Answer) → ((k : ℕ) → parts_end part m (at + (b + k)) (drop k t) ≡ moved at (parts_end part m (b + k) (drop k t)))
-        → after_part Refused a (at + b) t (parts_end part m) ≡ moved at (after_part Refused a b t (parts_end part m))
-    go (Accepted k) h = ap (λ (i : ℕ). parts_end part m i (drop k t)) (omega arith) ∙ h k
-    go (Refused f k) h = ap (Refused f) (omega arith)
-
--- What goes on after parts that stand at a place of the file, by the answer of the file.
-module _ {R : Type 0} (bad : Fault → ℕ → R) (go : ℕ → List ℕ → R) (at : ℕ) (s : List ℕ) where
-  after_read : (a : Answer) {p : ℕ} → moved at a ≡ Accepted p → after_part bad a at (drop at s) go ≡ go p (drop p s)
-  after_read (Accepted k) {p} e =
-      let same : at + k ≡ p = cc in
-      rw (drop-drop k at s, same)
-  after_read (Refused f k) e = apart cc
-
-  after_refused : (a : Answer) {f : Fault} {p : ℕ} → moved at a ≡ Refused f p → after_part bad a at (drop at s) go ≡ bad f p
-  after_refused (Accepted k) e = apart cc
-  after_refused (Refused f k) e = cc
-
-  module _ (part : List ℕ → Answer) (m : ℕ) {answer : Answer} (e : answer ≡ parts_end part m at (drop at s)) where
-    from_zero : {a : Answer} → answer ≡ a → moved at (parts_end part m 0 (drop at s)) ≡ a
-    from_zero is =
-        sym (parts_moved part m at 0 (drop at s)) ∙ ap (λ (i : ℕ). parts_end part m i (drop at s)) (add-zero at) ∙ sym e ∙ is
-
-    pub parts_read : {p : ℕ} → answer ≡ Accepted p → after_part bad (parts_end part m 0 (drop at s)) at (drop at s) go ≡ go p (drop p s)
-    parts_read is = after_read (parts_end part m 0 (drop at s)) (from_zero is)
-
-    pub parts_stopped : {f : Fault} {p : ℕ} → answer ≡ Refused f p
-        → after_part bad (parts_end part m 0 (drop at s)) at (drop at s) go ≡ bad f p
-    parts_stopped is = after_refused (parts_end part m 0 (drop at s)) (from_zero is)
-
 -- The moves, and nothing after them.
-pub moves_whole : (last count at : ℕ) (s : List ℕ) {k : ℕ} → codes_ending last count s ≡ Accepted k → length s ≤ k
+pub moves_whole : (last count at : ℕ) (s : List ℕ) {k : ℕ} → codes_ending last count s ≡ Ok k → length s ≤ k
     → moves_at last count at s ≡ track_to count at (at + k)
 unfolding moves_at
 moves_whole last count at s {k} is h =
     rw (is, ended refused_track (at + k) (drop k s) (track_to count at (at + k)) (simp length-drop (omega arith)))
 
-module _ (last count at : ℕ) (s : List ℕ) {answer : Answer} (e : answer ≡ parts_end (code_part last) count at (drop at s)) where
-  abbrev ending : ℕ → List ℕ → Track
-  ending end t = unless_trailing refused_track end t (track_to count at end)
+-- From the count of moves on, which stands in u at a place of the file.
+module _ (last : ℕ) (h : HeadRead) (stock at : ℕ) (u : List ℕ) where
+  count_refused : (f : Fault) → count_of 4096 u ≡ Err f → after_items last h stock at u ≡ refused_file f at
+  unfolding after_items track_of
+  count_refused f e = rw (e, add-zero)
 
-  pub moves_trailing : {p : ℕ} {q : Track} → answer ≡ Accepted p → p < length s → q ≡ no_track (Refused Trailing p)
-      → q ≡ moves_at last count at (drop at s)
-  unfolding moves_at
-  moves_trailing {p} is h is_q =
-      is_q ∙ sym (parts_read refused_track ending at s (code_part last) count e is
-      ∙ trailing refused_track p (drop p s) (track_to count at p) (simp length-drop (omega arith)))
+  module _ (count i : ℕ) (e : count_of 4096 u ≡ Ok (count, i)) (v : List ℕ) (q : v ≡ drop i u) where
+    codes_refused : (f : Fault) (j : ℕ) → codes_ending last count v ≡ refusal_at f j
+        → after_items last h stock at u ≡ refused_file f (at + i + j)
+    unfolding after_items track_of moves_at
+    codes_refused f j is =
+        let here = rw q at is in
+        rw (e, here) (ap (refused_file f) (omega arith))
 
-  pub moves_read : {p : ℕ} → answer ≡ Accepted p → length s ≤ p → track_to count at p ≡ moves_at last count at (drop at s)
-  unfolding moves_at
-  moves_read {p} is h =
-      sym (parts_read refused_track ending at s (code_part last) count e is
-      ∙ ended refused_track p (drop p s) (track_to count at p) (simp length-drop (omega arith)))
+    codes_trail : (j : ℕ) → codes_ending last count v ≡ Ok j → 0 < length (drop j v)
+        → after_items last h stock at u ≡ refused_file Trailing (at + i + j)
+    unfolding after_items track_of moves_at
+    codes_trail j is more =
+        let here = rw q at is in
+        let some = rw q at more in
+        rw (e, here, trailing refused_track (0 + i + j) (drop j (drop i u)) (track_to count (0 + i) (0 + i + j)) some)
+        (ap (refused_file Trailing) (omega arith))
 
-  pub moves_refused : {f : Fault} {p : ℕ} {q : Track} → answer ≡ Refused f p → q ≡ no_track answer → q ≡ moves_at last count at (drop at s)
-  unfolding moves_at
-  moves_refused is is_q = is_q ∙ ap no_track is ∙ sym (parts_stopped refused_track ending at s (code_part last) count e is)
+    codes_whole : (j : ℕ) → codes_ending last count v ≡ Ok j → length (drop j v) ≤ 0
+        → after_items last h stock at u ≡ file_to h stock count (at + i) (at + i + j)
+    unfolding after_items track_of moves_at
+    codes_whole j is none =
+        let here = rw q at is in
+        let empty = rw q at none in
+        let end : at + (0 + i + j) ≡ at + i + j = omega arith in
+        let track : at + (0 + i) ≡ at + i = omega arith in
+        rw (e, here, ended refused_track (0 + i + j) (drop j (drop i u)) (track_to count (0 + i) (0 + i + j)) empty, end, track)
 
--- The count of moves, which stands at a place of the file.
-module _ (last at : ℕ) (s : List ℕ) {r : Num} (e : r ≡ count_of 4096 (take (length s - at) (drop at s))) where
-  here : r ≡ count_of 4096 (drop at s)
-  here = e ∙ ap (count_of 4096) (part_drop at s)
+-- From the items on, which stand in t at a place of the file.
+module _ (last : ℕ) (h : HeadRead) (at : ℕ) (t : List ℕ) where
+  items_refused : (f : Fault) (j : ℕ) → items_ending h.n h.count t ≡ refusal_at f j → after_head last h at t ≡ refused_file f (at + j)
+  unfolding after_head
+  items_refused f j e = rw e
 
-  pub track_ends : {v k : ℕ} → at ≤ length s → r ≡ Value v k → at + k ≤ length s
-  track_ends h is = part_ends at s h (within_used 0 4096 Count (take (length s - at) (drop at s)) e is)
+  items_read : (j : ℕ) (u : List ℕ) → items_ending h.n h.count t ≡ Ok j → u ≡ drop j t → after_head last h at t ≡ after_items last h at (at + j) u
+  unfolding after_head
+  items_read j u e q = rw (e, q)
 
-  pub track_read : {v k : ℕ} {q : Track} → r ≡ Value v k → q ≡ moves_at last v (at + k) (drop (at + k) s) → q ≡ track_at last at (drop at s)
-  unfolding track_at
-  track_read {v} {k} is p = rw (← here, is, drop-drop k at s) p
-
-  pub track_refused : {f : Fault} {q : Track} → r ≡ Bad f → q ≡ no_track (Refused f at) → q ≡ track_at last at (drop at s)
-  unfolding track_at
-  track_refused is p = rw (← here, is) p
-
--- The file that a head, the place of the items and a track make.
-abbrev file_with : Head → ℕ → Answer → ℕ → ℕ → MoveFile
-file_with h stock (Accepted end) moves track = file_to h stock moves track end
-file_with h stock (Refused f k) moves track = refused_file f k
-
-module _ (last : ℕ) (h : Head) (stock at : ℕ) (t : List ℕ) where
-  -- From a track whose places are counted from its first byte, and from one of the file.
-  abbrev moved_file : Track → MoveFile
-  moved_file found = after_part refused_file found.answer at t (λ end rest. file_to h stock found.count (at + found.at) end)
-
-  abbrev made : Track → MoveFile
-  made found = file_with h stock found.answer found.count found.at
-
-  after_items_made : after_items last h stock at t ≡ made (track_at last at t)
-  unfolding after_items track_of track_at moves_at
-  after_items_made = by_count (count_of 4096 t)
-    where
-      left : (v k j : ℕ) (u : List ℕ)
-          → moved_file (unless_trailing refused_track (0 + k + j) u (track_to v (0 + k) (0 + k + j)))
-          ≡ made (unless_trailing refused_track (at + k + j) u (track_to v (at + k) (at + k + j)))
-      left v k j [] =
-          let end : at + (0 + k + j) ≡ at + k + j = omega arith in
-          let track : at + (0 + k) ≡ at + k = omega arith in
-          rw (end, track)
-      left v k j (b ∷ u) = ap (refused_file Trailing) (omega arith)
-
-      codes : (v k : ℕ) (u : List ℕ) (a : Answer)
-          → moved_file (after_part refused_track a (0 + k) u (λ end r. unless_trailing refused_track end r (track_to v (0 + k) end)))
-          ≡ made (after_part refused_track a (at + k) u (λ end r. unless_trailing refused_track end r (track_to v (at + k) end)))
-      codes v k u (Accepted j) = left v k j (drop j u)
-      codes v k u (Refused f j) = ap (refused_file f) (omega arith)
-
-      by_count : (r : Num)
-          → moved_file (after_number refused_track r 0 t (λ count next u. moves_at last count next u))
-          ≡ made (after_number refused_track r at t (λ count next u. moves_at last count next u))
-      by_count (Value v k) = codes v k (drop k t) (codes_ending last v (drop k t))
-      by_count (Bad f) = ap (refused_file f) (add-zero at)
-
--- The track, which stands at a place of the file.
-module _ (last : ℕ) (h : Head) (stock at : ℕ) (t : List ℕ) {found : Track} (e : found ≡ track_at last at t) where
-  made_of : file_with h stock found.answer found.count found.at ≡ after_items last h stock at t
-  made_of = ap (made last h stock at t) e ∙ sym (after_items_made last h stock at t)
-
-  pub file_read : {p : ℕ} → found.answer ≡ Accepted p
-      → ◌≡◌ {A = MoveFile}
-      (record {
-        answer = found.answer;
-        n = h.n;
-        initial = h.initial;
-        items = h.count;
-        stock = stock;
-        moves = found.count;
-        track = found.at;
-      })
-      (after_items last h stock at t)
-  file_read {p} is =
-      let read : Answer → MoveFile = λ a. record {
-        answer = a;
-        n = h.n;
-        initial = h.initial;
-        items = h.count;
-        stock = stock;
-        moves = found.count;
-        track = found.at;
-      } in
-      ap read is ∙ rw is at made_of
-
-  pub file_refused : {f : Fault} {k : ℕ} {q : MoveFile} → found.answer ≡ Refused f k → q ≡ refused_with found.answer
-      → q ≡ after_items last h stock at t
-  file_refused {f} {k} is p = p ∙ ap refused_with is ∙ rw is at made_of
-
--- The beginning, and the items, which stand after it.
-module _ (longest : ℕ) (s : List ℕ) {head : Head} (e : head ≡ head_of longest 255 s) where
-  head_end : {a : Answer} → head.answer ≡ a → (head_of longest 255 s).answer ≡ a
-  head_end is = ap (λ (h : Head). h.answer) (sym e) ∙ is
-
-  -- A beginning that was read ends within the file, which is not LONG.
-  pub head_ends : {k : ℕ} → Below 256 s → head.answer ≡ Accepted k → (k ≤ length s) × (length s ≤ longest)
-  head_ends {k} bs is =
-      let form = head_form longest 255 k s bs (head_end is) in
-      (omega (arith, form.ends, ap length form.form, length-take k s), form.short)
-
-  pub head_refused : (last : ℕ) {f : Fault} {k : ℕ} {q : MoveFile} → head.answer ≡ Refused f k → q ≡ refused_with head.answer
-      → q ≡ move_file_of longest last s
+module _ (longest last : ℕ) (s : List ℕ) where
+  head_refused : (f : Fault) (j : ℕ) → (head_of longest 255 s).answer ≡ refusal_at f j → move_file_of longest last s ≡ refused_file f j
   unfolding move_file_of
-  head_refused last is p = p ∙ ap refused_with is ∙ rw (← e, is, zero-add)
+  head_refused f j e = rw (e, zero-add)
 
-  head_read : (last : ℕ) {k : ℕ} {q : MoveFile} → head.answer ≡ Accepted k → q ≡ after_head last head k (drop k s)
-      → q ≡ move_file_of longest last s
+  head_read : (k : ℕ) (t : List ℕ) → (head_of longest 255 s).answer ≡ Ok k → t ≡ drop k s
+      → move_file_of longest last s ≡ after_head last (head_of longest 255 s) k t
   unfolding move_file_of after_head after_items
-  head_read last {k} is p = rw (← e, is, zero-add) p
+  head_read k t e q = rw (e, zero-add, q)
 
-  module _ (last : ℕ) {k : ℕ} (is : head.answer ≡ Accepted k) {items : Answer}
-      (read : items ≡ parts_end (item_part head.n) head.count k (drop k s)) where
-    pub items_read : {p : ℕ} {q : MoveFile} → items ≡ Accepted p → q ≡ after_items last head k p (drop p s) → q ≡ move_file_of longest last s
-    unfolding after_head
-    items_read it p =
-        head_read last is (p ∙ sym (parts_read refused_file (after_items last head k) k s (item_part head.n) head.count read it))
+-- What is refused at a place, where the rest r of the file begins.
+pub record Refused (longest : ℕ) (s : List ℕ) (file : FileRead) (f : Fault) (r : List ℕ) : Type 0 where
+  pub read : refused_file f (length s - length r) ≡ file
+  pub inside : length r ≤ length s
+  pub near : length s - length r ≤ longest
 
-    pub items_refused : {f : Fault} {p : ℕ} {q : MoveFile} → items ≡ Refused f p → q ≡ refused_with items → q ≡ move_file_of longest last s
-    unfolding after_head
-    items_refused it p =
-        head_read last is
-        (p ∙ ap refused_with it ∙ sym (parts_stopped refused_file (after_items last head k) k s (item_part head.n) head.count read it))
+refused_there : (longest : ℕ) (s r : List ℕ) (file : FileRead) (f : Fault) (j : ℕ) → IsRest s r → place s r ≡ j → j ≤ longest
+    → file ≡ refused_file f j → Refused longest s file f r
+refused_there longest s r file f j rest at near e = record {
+  read = ap (refused_file f) at ∙ sym e;
+  inside = rest.short;
+  near = omega (arith, at);
+}
 
-    -- The items end within the file.
-    pub items_within_file : {p : ℕ} → k ≤ length s → items ≡ Accepted p → p ≤ length s
-    items_within_file h it =
-        let inside = parts_within (item_part head.n) (item_within head.n) head.count k (drop k s) in
-        omega (arith, inside, ap answer_place (sym read ∙ it), length-drop k s)
+-- What is read, whose items and moves stand in the rests t and v.
+pub record Whole (s : List ℕ) (file : FileRead) (h : Head) (t : List ℕ) (count : ℕ) (v : List ℕ) : Type 0 where
+  pub read : ◌≡◌ {A = FileRead} (record {
+    answer = Ok (length s);
+    n = h.n;
+    initial = h.initial;
+    items = h.count;
+    stock = length s - length t;
+    moves = count;
+    track = length s - length v;
+  }) file
+  pub items : t ≡ drop (length s - length t) s
+  pub moves : v ≡ drop (length s - length v) s
+
+module _ (longest last : ℕ) (s : List ℕ) where
+  pub head_missed : {f : Fault} {r : List ℕ} → begins s (head_of longest 255 s) ≡ Err (f, r)
+      → Refused longest s (move_file_of longest last s) f r
+  head_missed {f} {r} e =
+      let m = missed s (head_of longest 255 s).answer (holds (head_of longest 255 s)) f r e in
+      let inside : m.place ≤ length s = rw m.refused at (head_inside longest 255 s) in
+      let near : m.place ≤ longest = rw m.refused at (head_near longest 255 s) in
+      refused_there longest s r (move_file_of longest last s) f m.place (rest_of_drop s r m.rest_is inside) (place_of s r m.rest_is inside) near
+      (head_refused longest last s f m.place m.refused)
+
+  module _ (h : Head) (t : List ℕ) (b : begins s (head_of longest 255 s) ≡ Ok (h, t)) where
+    abbrev head : HeadRead
+    head = head_of longest 255 s
+
+    head_is : holds head ≡ h
+    head_is = (took s head.answer (holds head) h t b).value_is
+
+    n_is : head.n ≡ h.n
+    n_is = ap (λ (x : Head). x.n) head_is
+
+    count_is : head.count ≡ h.count
+    count_is = ap (λ (x : Head). x.count) head_is
+
+    initial_is : head.initial ≡ h.initial
+    initial_is = ap (λ (x : Head). x.initial) head_is
+
+    short : length s ≤ longest
+    short = head_short longest 255 s (took s head.answer (holds head) h t b).accepted
+
+    t_rest : IsRest s t
+    t_rest =
+        let m = took s head.answer (holds head) h t b in
+        rest_of_drop s t m.rest_is (rw m.accepted at (head_inside longest 255 s))
+
+    -- The file, from the items on.
+    file_after : move_file_of longest last s ≡ after_head last head (place s t) t
+    file_after =
+        let m = took s head.answer (holds head) h t b in
+        let at = place_of s t m.rest_is (rw m.accepted at (head_inside longest 255 s)) in
+        rw at (head_read longest last s m.used t m.accepted m.rest_is)
+
+    pub items_missed : {f : Fault} {r : List ℕ} → passed t (items_ending h.n h.count t) ≡ Err (f, r)
+        → Refused longest s (move_file_of longest last s) f r
+    items_missed {f} {r} e =
+        let m = missed t (items_ending h.n h.count t) (tt {0}) f r e in
+        let inside = items_ends h.n h.count t m.refused in
+        let next = rest_next s t r t_rest inside m.rest_is in
+        let ends : items_ending head.n head.count t ≡ refusal_at f m.place = rw (n_is, count_is) m.refused in
+        refused_there longest s r (move_file_of longest last s) f (place s t + m.place) next.rest next.place_is
+        (omega (arith, next.place_is, short))
+        (file_after ∙ items_refused last head (place s t) t f m.place ends)
+
+    module _ (u : List ℕ) (i : passed t (items_ending h.n h.count t) ≡ Ok (tt {0}, u)) where
+      u_rest : IsRest s u
+      u_rest =
+          let m = took t (items_ending h.n h.count t) (tt {0}) (tt {0}) u i in
+          (rest_next s t u t_rest (items_ends h.n h.count t m.accepted) m.rest_is).rest
+
+      after : move_file_of longest last s ≡ after_items last head (place s t) (place s u) u
+      after =
+          let m = took t (items_ending h.n h.count t) (tt {0}) (tt {0}) u i in
+          let next = rest_next s t u t_rest (items_ends h.n h.count t m.accepted) m.rest_is in
+          let ends : items_ending head.n head.count t ≡ Ok m.used = rw (n_is, count_is) m.accepted in
+          rw next.place_is (file_after ∙ items_read last head (place s t) t m.used u ends m.rest_is)
+
+      pub count_missed : {f : Fault} {r : List ℕ} → handed_number u (count_of 4096 u) ≡ Err (f, r)
+          → Refused longest s (move_file_of longest last s) f r
+      count_missed {f} {r} e =
+          let m = missed_number u (count_of 4096 u) f r e in
+          rw m.1
+          (refused_there longest s u (move_file_of longest last s) f (place s u) u_rest refl (omega (arith, short))
+          (after ∙ count_refused last head (place s t) (place s u) u f m.0))
+
+      module _ (count : ℕ) (v : List ℕ) (c : handed_number u (count_of 4096 u) ≡ Ok (count, v)) where
+        v_rest : IsRest s v
+        v_rest =
+            let m = took_number u (count_of 4096 u) count v c in
+            (rest_next s u v u_rest (within_inside 0 4096 Count u m.read) m.rest_is).rest
+
+        v_at : place s v ≡ place s u + (took_number u (count_of 4096 u) count v c).used
+        v_at =
+            let m = took_number u (count_of 4096 u) count v c in
+            (rest_next s u v u_rest (within_inside 0 4096 Count u m.read) m.rest_is).place_is
+
+        pub codes_missed : {f : Fault} {r : List ℕ} → passed v (codes_ending last count v) ≡ Err (f, r)
+            → Refused longest s (move_file_of longest last s) f r
+        codes_missed {f} {r} e =
+            let m = took_number u (count_of 4096 u) count v c in
+            let d = missed v (codes_ending last count v) (tt {0}) f r e in
+            let next = rest_next s v r v_rest (codes_ends last count v d.refused) d.rest_is in
+            refused_there longest s r (move_file_of longest last s) f (place s v + d.place) next.rest next.place_is
+            (omega (arith, next.place_is, short))
+            (after ∙ codes_refused last head (place s t) (place s u) u count m.used m.read v m.rest_is f d.place d.refused
+            ∙ ap (λ (k : ℕ). refused_file f (k + d.place)) (sym v_at))
+
+        module _ (r : List ℕ) (d : passed v (codes_ending last count v) ≡ Ok (tt {0}, r)) where
+          pub codes_trailed : 0 < length r → Refused longest s (move_file_of longest last s) Trailing r
+          codes_trailed more =
+              let m = took_number u (count_of 4096 u) count v c in
+              let q = took v (codes_ending last count v) (tt {0}) (tt {0}) r d in
+              let next = rest_next s v r v_rest (codes_ends last count v q.accepted) q.rest_is in
+              let some : 0 < length (drop q.used v) = rw (← q.rest_is) more in
+              refused_there longest s r (move_file_of longest last s) Trailing (place s v + q.used) next.rest next.place_is
+              (omega (arith, next.place_is, short))
+              (after ∙ codes_trail last head (place s t) (place s u) u count m.used m.read v m.rest_is q.used q.accepted some
+              ∙ ap (λ (k : ℕ). refused_file Trailing (k + q.used)) (sym v_at))
+
+          pub file_whole : length r ≡ 0 → Whole s (move_file_of longest last s) h t count v
+          file_whole none =
+              let m = took_number u (count_of 4096 u) count v c in
+              let q = took v (codes_ending last count v) (tt {0}) (tt {0}) r d in
+              let next = rest_next s v r v_rest (codes_ends last count v q.accepted) q.rest_is in
+              let empty : length (drop q.used v) ≤ 0 = rw (← q.rest_is) (omega arith) in
+              let end : length s ≡ place s u + m.used + q.used = omega (arith, next.place_is, next.rest.short, v_at) in
+              let made : ℕ → ℕ → FileRead = λ length_is track_is. record {
+                answer = Ok length_is;
+                n = h.n;
+                initial = h.initial;
+                items = h.count;
+                stock = place s t;
+                moves = count;
+                track = track_is;
+              } in
+              let read = codes_whole last head (place s t) (place s u) u count m.used m.read v m.rest_is q.used q.accepted empty in
+              record {
+                read = sym (after ∙ read ∙ rw (n_is, initial_is, count_is) (ap₂ made (sym end) (sym v_at)));
+                items = sym t_rest.is;
+                moves = sym v_rest.is;
+              }

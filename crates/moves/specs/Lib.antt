@@ -1,2 +1,2 @@
 pub mod MoveFile
-pub mod Steps
+pub mod Whole

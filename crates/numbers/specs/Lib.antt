@@ -1,3 +1,3 @@
 pub mod Number
 pub mod Reading
-pub mod Groups
+pub mod Handed

@@ -1,6 +1,5 @@
-pub mod Numbers
-pub mod Steps
-pub mod Onward
+pub mod Bytes
+pub mod Rows
 pub mod Scans
 pub mod Whole
 pub mod Words

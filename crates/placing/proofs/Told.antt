@@ -6,8 +6,8 @@ use mathlib.Core.Path.{◌≡◌, refl, subst}
 use mathlib.Core.List.{List}
 use lib.ListN.{length}
 use lib.Seq.{sets}
-use Rattle.refusals.specs.declared.Answer.{Answer}
-use Rattle.refusals.specs.declared.Answer.TheVariants.{Accepted, Refused}
+use Rattle.refusals.specs.Table.{Answer}
+use Rattle.std.specs.Prelude.{Ok, Err}
 use Rattle.history.specs.Event.{in_turn}
 use Rattle.history.specs.Reads.{Read, written, reads_after, reads_of}
 use Rattle.history.specs.Verdict.{faulty, lawful}
@@ -21,8 +21,8 @@ use Rattle.placing.specs.Judgement.{log_from, events_from, items_from, Judgement
 
 -- What is told of a log whose reader answers so.
 abbrev pub told_after : Answer → List (List ℕ) → List Read → ℕ → Told
-told_after (Accepted end) items rs room = told items rs room
-told_after (Refused fault place) items rs room = refusal fault place
+told_after (Ok end) items rs room = told items rs room
+told_after (Err r) items rs room = refusal r.fault r.place
 
 -- What is told of some bytes. Where this is unfolded, so is all that reads a log.
 unfoldable pub told_of : List ℕ → ℕ → Told
@@ -40,8 +40,8 @@ told_of_right s room = go (log_from s).answer refl
 
     go : (a : Answer) → (log_from s).answer ≡ a
         → JudgementOf s room (told_after a (items_from s) rs room).answer (told_after a (items_from s) rs room).entries
-    go (Accepted end) h = lawful end h (told_right (items_from s) rs room)
-    go (Refused fault place) h = faulty fault place h refl refl
+    go (Ok end) h = lawful end h (told_right (items_from s) rs room)
+    go (Err r) h = faulty r.fault r.place h refl refl
 
 -- So the promise allows the answer that is told, with the entries that are told at the front of the output.
 pub judges_told : {s out : List ℕ} {answer : Answer} {after : List ℕ} → (told_of s (length out)).answer ≡ answer

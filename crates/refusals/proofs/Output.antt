@@ -1,6 +1,6 @@
 -- Laws of ROOM, and of what a writer leaves.
 -- Assumes nothing.
-use mathlib.Core.Path.{◌≡◌, sym, ap, ◌∙◌}
+use mathlib.Core.Path.{◌≡◌, ap, ◌∙◌}
 use mathlib.Core.List.{List}
 use Prim.Native.Nat.{ℕ, ◌+◌, ◌≤◌, ◌<◌}
 use native.Mathlib.Decide.{dec_lt}
@@ -8,19 +8,17 @@ use native.Mathlib.Omega.{arith}
 use lib.ListN.{length}
 use lib.Seq.{sets}
 use borrow.Author.Tests.{le-leb, lt-leb}
-use Rattle.refusals.specs.declared.Fault.{Fault}
 use Rattle.refusals.specs.declared.Fault.TheVariants.{Room}
-use Rattle.refusals.specs.declared.Answer.{Answer}
-use Rattle.refusals.specs.declared.Answer.TheVariants.{Accepted, Refused}
-use Rattle.refusals.specs.Table.{answer_place}
+use Rattle.refusals.specs.Table.{Answer, refusal_at, answer_place}
+use Rattle.std.specs.Prelude.{Ok}
 use Rattle.refusals.specs.Output.{room_answer, put_answer, leaves}
 use Rattle.refusals.proofs.Apart.{apart}
 
-pub room_enough : (len at needed : ℕ) → at + needed ≤ len → room_answer len at needed ≡ Accepted needed
+pub room_enough : (len at needed : ℕ) → at + needed ≤ len → room_answer len at needed ≡ Ok needed
 unfolding room_answer
 room_enough len at needed h = rw (le-leb (at + needed) len h)
 
-pub room_short : (len at needed : ℕ) → len < at + needed → room_answer len at needed ≡ Refused Room needed
+pub room_short : (len at needed : ℕ) → len < at + needed → room_answer len at needed ≡ refusal_at Room needed
 unfolding room_answer
 room_short len at needed h = rw (lt-leb (at + needed) len h)
 
@@ -34,7 +32,7 @@ module _ (out : List ℕ) (at : ℕ) (bytes : List ℕ) {k : ℕ} {answer : Answ
   is_put : answer ≡ put_answer out at bytes
   is_put = asked ∙ ap (room_answer (length out) at) len
 
-  pub put_room : {p : ℕ} → answer ≡ Accepted p → at + length bytes ≤ length out
+  pub put_room : {p : ℕ} → answer ≡ Ok p → at + length bytes ≤ length out
   put_room {p} is = elim (dec_lt (length out) (at + length bytes)) [
     | yes h ↦
         let short = room_short (length out) at (length bytes) h in
@@ -42,12 +40,6 @@ module _ (out : List ℕ) (at : ℕ) (bytes : List ℕ) {k : ℕ} {answer : Answ
         apart cc
     | no h ↦ omega arith
   ]
-
-  pub put_accepted : {p : ℕ} {left : List ℕ} → answer ≡ Accepted p → left ≡ sets out at bytes → Put out at bytes answer left
-  put_accepted is e = (is_put, rw is e)
-
-  pub put_refused : {f : Fault} {p : ℕ} → answer ≡ Refused f p → Put out at bytes answer out
-  put_refused is = (is_put, rw is)
 
 -- The output of a writer whose bytes are known to fit.
 pub put_fits : (out : List ℕ) (at : ℕ) (bytes : List ℕ) {answer : Answer} {left : List ℕ} → at + length bytes ≤ length out
@@ -58,8 +50,3 @@ put_fits out at bytes {answer} h p = p.1 ∙ ap (λ (a : Answer). leaves a out a
 pub put_place : (out : List ℕ) (at : ℕ) (bytes : List ℕ) {answer : Answer} {left : List ℕ} {k : ℕ} → at + length bytes ≤ length out
     → Put out at bytes answer left → k ≡ answer_place answer → k ≡ length bytes
 put_place out at bytes h p e = e ∙ ap answer_place (p.0 ∙ room_enough (length out) at (length bytes) h)
-
--- A writer of bytes that are known to fit, which stores them and answers their length.
-pub put_stored : (out : List ℕ) (at : ℕ) (bytes : List ℕ) {k : ℕ} {left : List ℕ} → at + length bytes ≤ length out → k ≡ length bytes
-    → left ≡ sets out at bytes → Put out at bytes (Accepted k) left
-put_stored out at bytes h e f = (rw e (sym (room_enough (length out) at (length bytes) h)), f)

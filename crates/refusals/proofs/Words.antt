@@ -7,9 +7,8 @@ use native.Mathlib.Omega.{arith}
 use lib.ListN.{get_or}
 use Rattle.refusals.specs.declared.Fault.{Fault}
 use Rattle.refusals.specs.declared.Fault.TheVariants.{Long, Cut, Form, Width, Count, Code, Trailing, Items, Turn, Room, NoPlace, State}
-use Rattle.refusals.specs.declared.Answer.{Answer}
-use Rattle.refusals.specs.declared.Answer.TheVariants.{Accepted, Refused}
-use Rattle.refusals.specs.Table.{fault_number, answer_place, answer_word}
+use Rattle.refusals.specs.Table.{Answer, refusal_at, fault_number, answer_place, answer_word}
+use Rattle.std.specs.Prelude.{Ok, Err}
 
 -- The faults from number 1 on.
 faults : List Fault
@@ -40,7 +39,7 @@ number_tells f g e = sym (at_number f).0 ∙ ap fault_at e ∙ (at_number g).0
 
 -- No two answers have one word.
 pub word_tells : (a b : Answer) → answer_place a < 2 ^ 32 → answer_place b < 2 ^ 32 → answer_word a ≡ answer_word b → a ≡ b
-word_tells (Accepted p) (Accepted q) hp hq e = ap Accepted (omega arith)
-word_tells (Accepted p) (Refused g q) hp hq e = absurd (omega (arith, (at_number g).1))
-word_tells (Refused f p) (Accepted q) hp hq e = absurd (omega (arith, (at_number f).1))
-word_tells (Refused f p) (Refused g q) hp hq e = ap₂ Refused (number_tells f g (omega arith)) (omega arith)
+word_tells (Ok p) (Ok q) hp hq e = ap Ok (omega arith)
+word_tells (Ok p) (Err r) hp hq e = absurd (omega (arith, (at_number r.fault).1))
+word_tells (Err r) (Ok q) hp hq e = absurd (omega (arith, (at_number r.fault).1))
+word_tells (Err r) (Err q) hp hq e = ap₂ refusal_at (number_tells r.fault q.fault (omega arith)) (omega arith)

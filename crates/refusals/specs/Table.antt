@@ -1,9 +1,8 @@
 -- 01, "Refusal numbers": the number of every fault, number and place of every answer, and the word that a host is answered.
-use Rattle.std.specs.Prelude.{ℕ, ◌+◌, ◌*◌, ◌^◌}
+use Rattle.std.specs.Prelude.{ℕ, ◌+◌, ◌*◌, ◌^◌, Result, Ok, Err}
 use Rattle.refusals.specs.declared.Fault.{Fault}
 use Rattle.refusals.specs.declared.Fault.TheVariants.{Long, Cut, Form, Width, Count, Code, Trailing, Items, Turn, Room, NoPlace, State}
-use Rattle.refusals.specs.declared.Answer.{Answer}
-use Rattle.refusals.specs.declared.Answer.TheVariants.{Accepted, Refused}
+use Rattle.refusals.specs.declared.Refusal.{Refusal}
 
 -- "No."
 abbrev pub fault_number : Fault → ℕ
@@ -20,15 +19,23 @@ fault_number Room = 10
 fault_number NoPlace = 11
 fault_number State = 12
 
+-- what a call answers
+abbrev pub Answer : Type 0
+Answer = Result ℕ Refusal
+
+-- refused for this fault, at this place
+abbrev pub refusal_at : Fault → ℕ → Answer
+refusal_at fault place = Err (record { fault = fault; place = place })
+
 -- "accepted" is number 0.
 abbrev pub answer_number : Answer → ℕ
-answer_number (Accepted place) = 0
-answer_number (Refused fault place) = fault_number fault
+answer_number (Ok place) = 0
+answer_number (Err r) = fault_number r.fault
 
 -- "Place"
 abbrev pub answer_place : Answer → ℕ
-answer_place (Accepted place) = place
-answer_place (Refused fault place) = place
+answer_place (Ok place) = place
+answer_place (Err r) = r.place
 
 -- "the table's number times 2^32, plus the place"
 abbrev pub answer_word : Answer → ℕ

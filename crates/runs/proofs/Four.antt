@@ -13,7 +13,7 @@ use Rattle.refusals.proofs.Apart.{apart}
 use Rattle.control.specs.Simpson.{Procedures}
 use Rattle.machine.specs.declared.State.{State}
 use Rattle.machine.specs.Machine.{writer_move, reader_move}
-use Rattle.history.specs.Event.{Event}
+use Rattle.history.specs.declared.Event.{Event}
 use Rattle.runs.specs.Run.{Ran, run, writes, reads, four_slots}
 use Rattle.runs.proofs.Runs.{Deal, Took, Skipped, run_all}
 

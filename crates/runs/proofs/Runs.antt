@@ -10,7 +10,7 @@ use Rattle.refusals.specs.declared.Fault.{Fault}
 use Rattle.refusals.specs.declared.Fault.TheVariants.{Items}
 use Rattle.refusals.proofs.Apart.{apart}
 use Rattle.words.specs.Words.{eight}
-use Rattle.history.specs.Event.{Event}
+use Rattle.history.specs.declared.Event.{Event}
 use Rattle.runs.specs.Run.{Bench, Outcome, Stopped, Ran, before, dealt, run, last_state}
 
 -- How a move was dealt with: it took the next item, or none.

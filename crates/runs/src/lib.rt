@@ -1,2 +1,3 @@
-// Runs of 01, "Numbers and files", as definitions and laws: a machine's moves in list order, whatever the machine is. No code.
+//! Runs, as definitions and laws: a machine's moves in list order, whatever the machine is. No
+//! code.
 #![tactic(auto)]

@@ -7,8 +7,5 @@ use Rattle.refusals.proofs.room.Goals as goal
 pub returns-then-needed-len : goal.returns-then-needed-len
 returns-then-needed-len c = sym (room_enough _ _ _ (omega arith))
 
-pub returns-else-needed-len : goal.returns-else-needed-len
-returns-else-needed-len c = sym (room_short _ _ _ (omega arith))
-
 pub returns-else-at-len : goal.returns-else-at-len
 returns-else-at-len c = sym (room_short _ _ _ (omega arith))
